@@ -1,0 +1,153 @@
+ghost use Rattle.std.specs.Prelude.{Some};
+
+use crate::{Status, c3_top, code};
+use c_parse::Kind;
+use c3_io::{Failed, MemSink, MemSource, Sink, Source};
+use std::alloc::Global;
+use std::test::Fail;
+
+const TWO_RANKS: &str = "int main(void){int x=7;printf(\"%d\\n\",x);return 0;}";
+
+const SIXTEEN_RANKS: &str = "rank 0 exit 2 bytes 0\nrank 1 exit 2 bytes 0\nrank 2 exit 2 bytes 0\n\
+rank 3 exit 2 bytes 0\nrank 4 exit 2 bytes 0\nrank 5 exit 2 bytes 0\nrank 6 exit 2 bytes 0\n\
+rank 7 exit 2 bytes 0\nrank 8 exit 2 bytes 0\nrank 9 exit 2 bytes 0\nrank 10 exit 2 bytes 0\n\
+rank 11 exit 2 bytes 0\nrank 12 exit 2 bytes 0\nrank 13 exit 2 bytes 0\nrank 14 exit 2 bytes 0\n\
+rank 15 exit 2 bytes 0\nfinished\n";
+
+const REFUSED: Status = Status::Refused {
+    kind: Kind::NotYet,
+    at: 0,
+};
+
+/// The words between spaces.
+fn words_of(alloc: Global, line: &str) -> Result<Vec<String>, Fail> {
+    let mut words = Vec::new(alloc);
+    for word in line.split_whitespace() {
+        words.push(String::from_str(alloc, word)?)?;
+    }
+    Ok(words)
+}
+
+#[test]
+fn answers_rows(rt: HostRuntime) -> Result<(), Fail> {
+    let rows = [
+        (
+            "plain 2",
+            TWO_RANKS,
+            "rank 0 exit 0 bytes 2\n7\nrank 1 exit 0 bytes 2\n7\nfinished\n",
+            Status::Done,
+            0,
+        ),
+        (
+            "plain 1",
+            "int main(void){int a=3;int b=a;a=5;return b;}",
+            "rank 0 exit 3 bytes 0\nfinished\n",
+            Status::Done,
+            0,
+        ),
+        ("plain 1", "", "refused NotYet at 0\n", REFUSED, 3),
+        (
+            "plain 1",
+            "int main(void){return x;}",
+            "refused NotYet at 0\n",
+            REFUSED,
+            3,
+        ),
+        (
+            "plain 1",
+            "int main(void){int x=2147483648;return x;}",
+            "refused NotYet at 0\n",
+            REFUSED,
+            3,
+        ),
+        (
+            "plain 16",
+            "int main(void){return 2;}",
+            SIXTEEN_RANKS,
+            Status::Done,
+            0,
+        ),
+        ("", TWO_RANKS, "usage\n", Status::Usage, 2),
+        ("plain", TWO_RANKS, "usage\n", Status::Usage, 2),
+        ("plain 04", TWO_RANKS, "usage\n", Status::Usage, 2),
+        ("plain 2 2", TWO_RANKS, "usage\n", Status::Usage, 2),
+        ("plain 0", TWO_RANKS, "usage\n", Status::Usage, 2),
+        ("plain 17", TWO_RANKS, "usage\n", Status::Usage, 2),
+        ("start 04", TWO_RANKS, "usage\n", Status::Usage, 2),
+        ("run", TWO_RANKS, "usage\n", Status::Usage, 2),
+    ];
+    for (line, input, text, status, number) in rows {
+        let words = words_of(rt.alloc(), line)?;
+        let bytes = Vec::from_slice(rt.alloc(), input.as_bytes())?;
+        let mut source = MemSource::new(bytes, Vec::new(rt.alloc()));
+        let mut sink = MemSink::new(rt.alloc(), Vec::new(rt.alloc()));
+        let answer = c3_top(rt.alloc(), &words, &mut source, &mut sink);
+        assert_eq!(rt; answer, status, "at {line}");
+        assert_eq!(rt; code(&answer), number, "at {line}");
+        assert_eq!(rt; sink.bytes(), text.as_bytes(), "at {line}");
+    }
+    Ok(())
+}
+
+#[test]
+fn tells_faults(rt: HostRuntime) -> Result<(), Fail> {
+    let words = words_of(rt.alloc(), "plain 2")?;
+    let bytes = Vec::from_slice(rt.alloc(), TWO_RANKS.as_bytes())?;
+    let mut source = MemSource::new(bytes, vec![in rt.alloc(); 0]?);
+    let mut sink = MemSink::new(rt.alloc(), Vec::new(rt.alloc()));
+    let answer = c3_top(rt.alloc(), &words, &mut source, &mut sink);
+    assert_eq!(rt; answer, Status::ReadFault);
+    assert_eq!(rt; sink.bytes(), b"read fault\n".as_slice());
+    let bytes = Vec::from_slice(rt.alloc(), TWO_RANKS.as_bytes())?;
+    let mut source = MemSource::new(bytes, Vec::new(rt.alloc()));
+    let mut sink = MemSink::new(rt.alloc(), vec![in rt.alloc(); 0]?);
+    let answer = c3_top(rt.alloc(), &words, &mut source, &mut sink);
+    assert_eq!(rt; answer, Status::WriteFault { out: 0 });
+    assert_eq!(rt; sink.bytes(), b"".as_slice());
+    Ok(())
+}
+
+/// A source and a sink that move at most three bytes a call.
+#[derive(Drop)]
+struct Sips<S> {
+    whole: S,
+}
+
+impl<S: Source> Source for Sips<S> {
+    ghost left = { λ s. S.left s.whole };
+
+    ghost faults = { λ s. S.faults s.whole };
+
+    fn take(&mut self, into: &mut [u8]) -> Result<usize, Failed> {
+        let room = into.len().min(3);
+        self.whole.take(&mut into[..room])
+    }
+}
+
+impl<K: Sink> Sink for Sips<K> {
+    ghost out = { λ s. K.out s.whole };
+
+    ghost faults = { λ s. K.faults s.whole };
+
+    fn put(&mut self, piece: &[u8]) -> Result<usize, Failed> {
+        let count = piece.len().min(3);
+        self.whole.put(&piece[..count])
+    }
+}
+
+#[test]
+fn moves_few_bytes_a_call(rt: HostRuntime) -> Result<(), Fail> {
+    let words = words_of(rt.alloc(), "plain 2")?;
+    let bytes = Vec::from_slice(rt.alloc(), TWO_RANKS.as_bytes())?;
+    let mut source = Sips {
+        whole: MemSource::new(bytes, Vec::new(rt.alloc())),
+    };
+    let mut sink = Sips {
+        whole: MemSink::new(rt.alloc(), Vec::new(rt.alloc())),
+    };
+    let answer = c3_top(rt.alloc(), &words, &mut source, &mut sink);
+    assert_eq!(rt; answer, Status::Done);
+    let text = "rank 0 exit 0 bytes 2\n7\nrank 1 exit 0 bytes 2\n7\nfinished\n";
+    assert_eq!(rt; sink.whole.bytes(), text.as_bytes());
+    Ok(())
+}

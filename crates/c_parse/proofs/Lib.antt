@@ -1,0 +1,5 @@
+pub mod Numbers
+pub mod Items
+pub mod Digits
+pub mod Rules
+pub mod Whole
