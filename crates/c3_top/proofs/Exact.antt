@@ -2,8 +2,8 @@
 use Rattle.std.proofs.Common.{ℕ, List, Some, None, refl, sym, subst, inl, inr}
 use Rattle.std.specs.Prelude.{Option, IfSome}
 use Rattle.std.specs.Io.KnownBytes.{Appends}
-use Rattle.c_parse.specs.declared.fault.Kind.TheVariants.{NotYet}
-use Rattle.c_parse.specs.declared.tree.Program.{Program}
+use Rattle.c_tree.specs.declared.kind.Kind.TheVariants.{NotYet}
+use Rattle.c_parse.specs.declared.straight.tree.Program.{Program}
 use Rattle.c_parse.specs.Grammar.{HasTree, HasNoTree}
 use Rattle.c3_top.specs.declared.status.Status.{Status}
 use Rattle.c3_top.specs.declared.status.Status.TheVariants.{Done, Usage, Refused, ReadFault, WriteFault, NoMemory}

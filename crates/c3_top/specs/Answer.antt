@@ -1,8 +1,8 @@
 -- What is answered to the words and the input, and what is written with it.
 use Rattle.std.specs.Prelude.{◌≡◌, ◌⊎◌, ℕ, ◌<◌, List, [], length, take, Option, codes}
 use Rattle.std.specs.Io.KnownBytes.{Appends}
-use Rattle.c_parse.specs.declared.fault.Kind.TheVariants.{NotYet}
-use Rattle.c_parse.specs.declared.tree.Program.{Program}
+use Rattle.c_tree.specs.declared.kind.Kind.TheVariants.{NotYet}
+use Rattle.c_parse.specs.declared.straight.tree.Program.{Program}
 use Rattle.c3_io.specs.Streams.{AreAll}
 use Rattle.c_parse.specs.Grammar.{HasTree, HasNoTree}
 use Rattle.c3_top.specs.declared.status.Status.{Status}

@@ -1,7 +1,7 @@
 ghost use Rattle.std.specs.Prelude.{Some};
 
 use crate::{Status, c3_top, code};
-use c_parse::Kind;
+use c_tree::Kind;
 use c3_io::{Failed, MemSink, MemSource, Sink, Source};
 use std::alloc::Global;
 use std::test::Fail;

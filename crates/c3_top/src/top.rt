@@ -1,14 +1,15 @@
 ghost use Rattle.std.specs.Prelude.{◌≡◌, ◌≤◌, IfOk, IfSome, map, string_bytes};
 ghost use Rattle.c3_io.specs.Faults.{Rose};
 ghost use Rattle.c_parse.specs.Grammar.{HasTree, HasNoTree};
-ghost use Rattle.c_parse.specs.declared.tree.Program.{Program};
+ghost use Rattle.c_parse.specs.declared.straight.tree.Program.{Program};
 ghost use Rattle.c3_top.specs.Command.{IsNoCommand};
 ghost use Rattle.c3_top.specs.Answer.{IsCommand, IsAnswerTo, IsPlainAnswer, IsDue, IsRefusal, IsWriteFault, Writes, Exactly};
 
 use crate::Status;
 use crate::command::plain_ranks;
 use crate::run::run_text;
-use c_parse::{Kind, ParseFault, TEXT_LIMIT, parse};
+use c_parse::straight::{ParseFault, TEXT_LIMIT, parse};
+use c_tree::Kind;
 use c3_base::NoMemory;
 use c3_io::{ReadAllFault, Sink, Source, read_all, write_all_to};
 use std::alloc::Global;

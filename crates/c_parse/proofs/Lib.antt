@@ -3,3 +3,5 @@ pub mod Items
 pub mod Digits
 pub mod Rules
 pub mod Whole
+pub mod LexText
+pub mod LexScan

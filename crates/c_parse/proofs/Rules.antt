@@ -5,10 +5,10 @@ use Rattle.std.specs.Option.{option_map_or}
 use Rattle.std.specs.Str.{bytes_eq}
 use Rattle.std.specs.Fmt.{decimal}
 use Rattle.std.proofs.lemmas.Slice.Eq.{bytes_eq-Decides}
-use Rattle.c_parse.specs.declared.tree.Term.{Term}
-use Rattle.c_parse.specs.declared.tree.Term.TheVariants.{Name, Number}
-use Rattle.c_parse.specs.declared.tree.Statement.{Statement}
-use Rattle.c_parse.specs.declared.tree.Statement.TheVariants.{Declare, Assign}
+use Rattle.c_parse.specs.declared.straight.tree.Term.{Term}
+use Rattle.c_parse.specs.declared.straight.tree.Term.TheVariants.{Name, Number}
+use Rattle.c_parse.specs.declared.straight.tree.Statement.{Statement}
+use Rattle.c_parse.specs.declared.straight.tree.Statement.TheVariants.{Declare, Assign}
 use Rattle.c_parse.specs.Words.{is_name, is_reserved}
 use Rattle.c3_base.specs.Reading.{◌>>=◌, many_at}
 use Rattle.c_parse.specs.Reading.{word_at, sign_at, keyword_at, number_of, name_at, term_at, value_at, declared_at, assigned_at, statement_at}

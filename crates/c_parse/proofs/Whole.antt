@@ -1,17 +1,17 @@
 -- The whole text: what is read is its tree, and its tree is read.
 use Rattle.std.proofs.Common.{◌≡◌, ℕ, ◌<◌, Bool, true, false, cond, eqb, ltb, List, [], ◌∷◌, ◌++◌, length, take, Option, Some, None, refl, sym, ap, subst, ◌∙◌, inl, inr, arith}
 use Rattle.std.specs.Prelude.{codes, Result, Ok, Err, IfOk, IsErrOf}
-use Rattle.c_parse.specs.declared.fault.ParseFault.{ParseFault}
-use Rattle.c_parse.specs.declared.fault.ParseFault.TheVariants.{NotYet}
+use Rattle.c_parse.specs.declared.straight.fault.ParseFault.{ParseFault}
+use Rattle.c_parse.specs.declared.straight.fault.ParseFault.TheVariants.{NotYet}
 use Rattle.std.specs.List.{list_all, prefix_len}
 use Rattle.std.proofs.lemmas.Bool.{eqb-true, le-ltb, ltb-false}
 use Rattle.std.proofs.lemmas.Bool.Decides.{nat_tests}
 use Rattle.std.proofs.lemmas.List.{nil_from_length, take-append-drop, append-nil}
-use Rattle.c_parse.specs.declared.tree.Term.{Term}
-use Rattle.c_parse.specs.declared.tree.Piece.{Piece}
-use Rattle.c_parse.specs.declared.tree.Piece.TheVariants.{Byte, Decimal}
-use Rattle.c_parse.specs.declared.tree.Print.{Print}
-use Rattle.c_parse.specs.declared.tree.Program.{Program}
+use Rattle.c_parse.specs.declared.straight.tree.Term.{Term}
+use Rattle.c_parse.specs.declared.straight.tree.Piece.{Piece}
+use Rattle.c_parse.specs.declared.straight.tree.Piece.TheVariants.{Byte, Decimal}
+use Rattle.c_parse.specs.declared.straight.tree.Print.{Print}
+use Rattle.c_parse.specs.declared.straight.tree.Program.{Program}
 use Rattle.c_parse.specs.Words.{is_blank, is_plain, is_name, is_reserved}
 use Rattle.c_parse.specs.Scope.{is_scoped}
 use Rattle.c3_base.specs.Reading.{◌>>=◌, many_at}

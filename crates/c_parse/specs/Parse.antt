@@ -1,6 +1,6 @@
 -- The tree of a text.
 use Rattle.std.specs.Prelude.{ℕ, nat_lt, List, length, Option, Some, None, if◌then◌else◌}
-use Rattle.c_parse.specs.declared.tree.Program.{Program}
+use Rattle.c_parse.specs.declared.straight.tree.Program.{Program}
 use Rattle.c3_base.specs.Reading.{◌>>=◌}
 use Rattle.c_parse.specs.Reading.{program_at}
 use Rattle.c_parse.specs.Scope.{is_scoped}

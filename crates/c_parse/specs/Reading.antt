@@ -6,17 +6,17 @@ use Rattle.std.specs.Str.{bytes_eq}
 use Rattle.std.specs.Str.Parse.{digits_value}
 use Rattle.c3_base.specs.Reading as reading
 use Rattle.c3_base.specs.Reading.{◌>>=◌, many_at}
-use Rattle.c_parse.specs.declared.fault.ParseFault.{ParseFault}
-use Rattle.c_parse.specs.declared.fault.ParseFault.TheVariants as faults
+use Rattle.c_parse.specs.declared.straight.fault.ParseFault.{ParseFault}
+use Rattle.c_parse.specs.declared.straight.fault.ParseFault.TheVariants as faults
 use Rattle.c_parse.specs.Words.{is_blank, is_word_byte, is_name, is_decimal, is_plain}
-use Rattle.c_parse.specs.declared.tree.Piece.{Piece}
-use Rattle.c_parse.specs.declared.tree.Piece.TheVariants.{Byte, Decimal}
-use Rattle.c_parse.specs.declared.tree.Print.{Print}
-use Rattle.c_parse.specs.declared.tree.Program.{Program}
-use Rattle.c_parse.specs.declared.tree.Term.{Term}
-use Rattle.c_parse.specs.declared.tree.Term.TheVariants.{Name, Number}
-use Rattle.c_parse.specs.declared.tree.Statement.{Statement}
-use Rattle.c_parse.specs.declared.tree.Statement.TheVariants.{Declare, Assign}
+use Rattle.c_parse.specs.declared.straight.tree.Piece.{Piece}
+use Rattle.c_parse.specs.declared.straight.tree.Piece.TheVariants.{Byte, Decimal}
+use Rattle.c_parse.specs.declared.straight.tree.Print.{Print}
+use Rattle.c_parse.specs.declared.straight.tree.Program.{Program}
+use Rattle.c_parse.specs.declared.straight.tree.Term.{Term}
+use Rattle.c_parse.specs.declared.straight.tree.Term.TheVariants.{Name, Number}
+use Rattle.c_parse.specs.declared.straight.tree.Statement.{Statement}
+use Rattle.c_parse.specs.declared.straight.tree.Statement.TheVariants.{Declare, Assign}
 
 -- The text isn't read, unless memory ran out.
 abbrev pub Fails : {Y : Type 0} → ParseFault → Option Y → Type 0

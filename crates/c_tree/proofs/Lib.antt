@@ -1,0 +1,12 @@
+pub mod Characters
+pub mod Comments
+pub mod Directives
+pub mod Examples
+pub mod Fresh
+pub mod Fronts
+pub mod Longest
+pub mod Numbers
+pub mod Sight
+pub mod Signs
+pub mod Strings
+pub mod Whole

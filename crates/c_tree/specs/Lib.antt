@@ -1,0 +1,4 @@
+pub mod Codes
+pub mod Scan
+pub mod Tokens
+pub mod Words
