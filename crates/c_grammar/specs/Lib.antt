@@ -1,0 +1,10 @@
+pub mod Grammar
+pub mod Meaning
+pub mod Descent
+pub mod Gives
+pub mod Program
+pub mod Textbook
+pub mod Readers
+pub mod Fitting
+pub mod Trees
+pub mod Text

@@ -1,0 +1,35 @@
+//! Why tokens were not read.
+
+ghost use Rattle.std.specs.Prelude.{◌≡◌};
+ghost use Rattle.c_grammar.specs.declared.fault.ReadError.TheVariants.{Memory};
+
+use std::alloc::{AllocError, AllocFailed};
+
+/// Why a rule was not read. A fault's place is the number of tokens from it to the end.
+#[derive(Debug, Drop)]
+pub enum ReadError {
+    /// The memory that the answer needs is not there.
+    Memory,
+    /// The token, or the end, fits nowhere.
+    Syntax(usize),
+    /// The token stands at level 65.
+    TooDeep(usize),
+    /// The token is a number of 2^63 or more.
+    TooLarge(usize),
+}
+
+impl From<AllocError> for ReadError {
+    ghost from_gives = { λ _ e. e ≡ Memory };
+
+    fn from(_error: AllocError) -> ReadError {
+        ReadError::Memory
+    }
+}
+
+impl<T: Drop> From<AllocFailed<T>> for ReadError {
+    ghost from_gives = { λ _ e. e ≡ Memory };
+
+    fn from(_error: AllocFailed<T>) -> ReadError {
+        ReadError::Memory
+    }
+}
