@@ -37,6 +37,22 @@ Consumes-kept (Some x) None c bs p q = absurd p
 Consumes-kept (Some x) (Some y) None bs p q = absurd q
 Consumes-kept (Some x) (Some y) (Some z) bs p q = p ∙ ap (λ l. bs ++ l) (sym q)
 
+pub Keeps-refl : (a : Option (List ℕ)) → Keeps a a
+Keeps-refl None = tt
+Keeps-refl (Some x) = refl
+
+pub Keeps-then : (a b c : Option (List ℕ)) → Keeps a b → Keeps b c → Keeps a c
+Keeps-then None b c p q = tt
+Keeps-then (Some x) None c p q = absurd p
+Keeps-then (Some x) (Some y) None p q = absurd q
+Keeps-then (Some x) (Some y) (Some z) p q = q ∙ p
+
+pub kept-Consumes : (a b c : Option (List ℕ)) (bs : List ℕ) → Keeps a b → Consumes b c bs → Consumes a c bs
+kept-Consumes None b c bs p q = tt
+kept-Consumes (Some x) None c bs p q = absurd p
+kept-Consumes (Some x) (Some y) None bs p q = absurd q
+kept-Consumes (Some x) (Some y) (Some z) bs p q = sym p ∙ q
+
 -- at its end a source has given all that it had
 pub AreAll-from_end : (a b : Option (List ℕ)) (bs : List ℕ) → Consumes a b bs → IsAtEnd b → AreAll a bs
 AreAll-from_end None b bs p e = tt
