@@ -1,0 +1,4 @@
+mod ExpressionSteps
+mod ExpressionWords
+mod ExpressionShapes
+mod ItemRows
