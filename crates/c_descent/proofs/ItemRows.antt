@@ -1,14 +1,14 @@
 -- Repetitions whose parts are kept in a list.
-use Rattle.std.proofs.Common.{◌≡◌, ◌∙◌, ℕ, ◌+◌, true, false, List, [], ◌∷◌, ◌++◌, refl, sym, ap, subst, zero, suc, add-one}
+use Rattle.std.proofs.Common.{◌≡◌, ◌∙◌, ℕ, ◌+◌, true, List, [], ◌∷◌, ◌++◌, refl, sym, ap, zero, suc, add-one}
 use Rattle.c_tree.specs.declared.token.Token.{Token}
 use Rattle.c_tree.specs.declared.token.Class.TheVariants as class
 use Rattle.c_tree.specs.declared.token.Operator.TheVariants as operator
-use Rattle.c_grammar.specs.Grammar.{Rule, Many}
+use Rattle.c_grammar.specs.Grammar.{Rule}
 use Rattle.c_grammar.specs.Meaning.{Forest, none, ◌+++◌, starts}
-use Rattle.c_grammar.specs.Descent.{Reads, Read, Fault, Kind}
+use Rattle.c_grammar.specs.Descent.{Reads, Read}
 use Rattle.c_grammar.specs.Trees.{each, star_row, shown}
 use Rattle.c_grammar.proofs.Grades.{each_push, none_right, forest_assoc}
-use Rattle.c_grammar.proofs.Steps.{Past, past_start, past_step, past_stop, past_fault}
+use Rattle.c_grammar.proofs.Steps.{Past, past_start, past_step}
 
 -- A repetition that began at ts, with the list xs, stands at us with the list ys.
 pub record Grown {X : Type 0} (row : X → Forest) (l : ℕ) (r : Rule) (ts us : List Token) (xs ys : List X) : Type 0 where

@@ -1,1 +1,4 @@
 pub mod More
+pub mod Functions
+pub mod Calls
+pub mod Statements

@@ -2,11 +2,17 @@
 #![tactic(auto)]
 
 mod ahead;
-pub mod declaration;
-pub mod expression;
-pub mod heading;
-pub mod structs;
-#[cfg(test)]
-mod tests;
-pub mod types;
+mod argument;
+mod call;
+mod collective;
+mod declaration;
+mod expression;
+mod heading;
+mod item;
+mod message;
+mod statement;
+mod structs;
+mod types;
 mod words;
+
+pub use item::program;

@@ -29,7 +29,8 @@ use Rattle.c_tree.specs.declared.tree.Status.TheVariants as status
 use Rattle.c_tree.specs.declared.tree.Step.{Step}
 use Rattle.c_tree.specs.declared.tree.Step.TheVariants as step
 use Rattle.c_grammar.specs.Meaning.{Forest, none, leaf, ◌+++◌}
-use Rattle.c_grammar.specs.Trees.{shape, lifted, each, given, star_row, name_row, number_row, specifier_tree, member_name_row, member_tree, members_tree, expression_tree, variable_tree, declaration_tree, bound_row, parameter_tree, datatype_row, reduction_row, buffer_tree, status_row, status_tree, names_row, call_tree, step_class, assign_class, simple_row, simple_tree, start_row, mark_row}
+use Rattle.c_grammar.specs.Readers.{assign_class}
+use Rattle.c_grammar.specs.Trees.{shape, lifted, each, given, star_row, name_row, number_row, specifier_tree, member_name_row, member_tree, members_tree, expression_tree, variable_tree, declaration_tree, bound_row, parameter_tree, datatype_row, reduction_row, buffer_tree, status_row, status_tree, names_row, call_tree, step_class, simple_row, simple_tree, start_row, mark_row}
 use Rattle.c_grammar.proofs.Grades.{none_right}
 use Rattle.c_grammar.proofs.Peels.{Peels, Free, NoStar, one, each_one, each_peels, stars_peel, given_peels, given_one, name_peels, number_peels, member_name_peels, specifier_tree_peels}
 use Rattle.c_grammar.proofs.OneExpression.{no_tree, expression_peels, unary_peels}

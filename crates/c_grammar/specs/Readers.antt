@@ -58,9 +58,9 @@ grade operator.Not = 10
 grade operator.Tilde = 10
 
 -- the class of an assignment: of = where there is no operator
-abbrev pub assignment : Option Operator → Class
-assignment None = class.Equal
-assignment (Some o) = class.Compound o
+abbrev pub assign_class : Option Operator → Class
+assign_class None = class.Equal
+assign_class (Some o) = class.Compound o
 
 -- the class of a number, long or not
 abbrev length_class : Bool → Class

@@ -60,7 +60,7 @@ use Rattle.c_tree.specs.declared.tree.Status.TheVariants as status
 use Rattle.c_grammar.specs.Grammar as part
 use Rattle.c_grammar.specs.Grammar.{Part}
 use Rattle.c_grammar.specs.Meaning.{Forest, none, leaf, node, ◌+++◌}
-use Rattle.c_grammar.specs.Readers.{grade}
+use Rattle.c_grammar.specs.Readers.{assign_class, grade}
 
 -- ---- rows
 
@@ -307,11 +307,6 @@ call_tree (mpi.Allgather at send receive) = call_node part.AllgatherCall call.Al
 abbrev pub step_class : Step → Class
 step_class step.Increment = class.PlusPlus
 step_class step.Decrement = class.MinusMinus
-
--- = or an operator before it
-abbrev pub assign_class : Option Operator → Class
-assign_class None = class.Equal
-assign_class (Some o) = class.Compound o
 
 -- an expression, an assignment or a step
 abbrev pub simple_row : SimpleStatement → Forest

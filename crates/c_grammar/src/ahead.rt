@@ -4,7 +4,7 @@ ghost use Rattle.std.specs.Prelude.{◌≡◌, ◌<◌, ◌∷◌, []};
 ghost use Rattle.c_tree.specs.Codes.{code};
 ghost use Rattle.c_grammar.specs.Grammar.{prefixes, datatypes, reductions, headers, assignments, Ref, Item, TypeSpecifier, BlockItem, SimpleStatement, MpiCall, Unary, operators};
 ghost use Rattle.c_grammar.specs.Meaning.{has, next_in, starts};
-ghost use Rattle.c_grammar.specs.Readers.{IsNext, grade, assignment};
+ghost use Rattle.c_grammar.specs.Readers.{IsNext, assign_class, grade};
 ghost use Rattle.c_tree.specs.declared.token.Class.TheVariants;
 
 use c_tree::{Class, Datatype, Header, Operator, Reduction, Token};
@@ -195,7 +195,7 @@ pub fn grade_of(operator: Operator) -> u8
 
 /// The assignment that the next token is: its operator, or none for `=` (C99 6.5.16).
 pub fn at_assignment(tokens: &[Token]) -> Option<Option<Operator>>
-    ensures { IsNext assignment assignments tokens.now result }
+    ensures { IsNext assign_class assignments tokens.now result }
 {
     match tokens {
         [] => None,

@@ -5,3 +5,4 @@ pub mod Rules
 pub mod Whole
 pub mod LexText
 pub mod LexScan
+pub mod Outcomes

@@ -16,7 +16,7 @@ use Rattle.c_parse.specs.Words.{is_blank, is_plain, is_name, is_reserved}
 use Rattle.c_parse.specs.Scope.{is_scoped}
 use Rattle.c3_base.specs.Reading.{◌>>=◌, many_at}
 use Rattle.c_parse.specs.Reading.{Gives, skip, after_byte, after_second, sign_at, keyword_at, name_at, term_at, statement_at, piece_at, argument_at, format_at, printed_at, print_at, header_at, ending_at, program_at}
-use Rattle.c_parse.specs.Parse.{parse_of}
+use Rattle.c_parse.specs.Straight.{parse_of}
 use Rattle.c_parse.specs.Grammar.{SignAt, StatementAt, PieceAt, ArgumentAt, FormatAt, PrintedAt, PrintAt, HeaderAt, EndingAt, ProgramAt, HasTree, HasNoTree}
 use Rattle.c_parse.proofs.Items.{bind_some, if_some, split_front, skip_gap, after_byte_takes, after_byte_again, sign_takes, sign_again, sign_none, keyword_takes, keyword_again}
 use Rattle.c_parse.proofs.Rules.{some_is, chosen, taken, name_takes, name_again, term_takes, term_again, statement_takes, statement_again, statement_shorter, no_statement, many_takes, many_again, sign_shorter, word_shorter, keyword_none}

@@ -1,9 +1,16 @@
--- The tree of a text.
-use Rattle.std.specs.Prelude.{ℕ, nat_lt, List, length, Option, Some, None, if◌then◌else◌}
-use Rattle.c_parse.specs.declared.straight.tree.Program.{Program}
-use Rattle.c3_base.specs.Reading.{◌>>=◌}
-use Rattle.c_parse.specs.Reading.{program_at}
-use Rattle.c_parse.specs.Scope.{is_scoped}
+-- What a parser's answer says of the text.
+use Rattle.std.specs.Prelude.{Option, Some, None, Result, Ok, Err}
+use Rattle.c_tree.specs.declared.tree.Tree.{Tree}
+use Rattle.c_tree.specs.declared.kind.Kind.TheVariants as kind
+use Rattle.c_grammar.specs.Text.{Parsed, Whole, Refused, text_limit}
+use Rattle.c_parse.specs.declared.fault.ParseFault.{ParseFault}
+use Rattle.c_parse.specs.declared.fault.ParseFault.TheVariants as fault
 
-unfoldable pub parse_of : List ℕ → Option Program
-parse_of text = if nat_lt 65536 (length text) then None else (program_at text >>= λ p. if is_scoped p then Some p else None)
+-- nothing, where memory ran out
+abbrev pub said : Result Tree ParseFault → Option Parsed
+said (Ok tree) = Some (Whole tree)
+said (Err fault.TextLimit) = Some (Refused kind.TextLimit text_limit)
+said (Err (fault.Syntax at)) = Some (Refused kind.Syntax at)
+said (Err (fault.TooDeep at)) = Some (Refused kind.TooDeep at)
+said (Err (fault.NumberRange at)) = Some (Refused kind.NumberRange at)
+said (Err fault.NoMemory) = None

@@ -72,8 +72,8 @@ pub fn tokens(alloc: Global, text: &[u8]) -> Result<Items<Token>, NoMemory>
     scanned(alloc, text)
 }
 
-/// The same, piece by piece.
-fn scanned(alloc: Global, text: &[u8]) -> Result<Items<Token>, NoMemory>
+/// The same, as the scan of the text.
+pub fn scanned(alloc: Global, text: &[u8]) -> Result<Items<Token>, NoMemory>
     requires { length text.now < 2 ^ 32 }
     ensures { IfOk result (λ list. list ≡ scan.tokens_of text.now) }
 {

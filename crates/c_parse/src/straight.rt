@@ -10,7 +10,7 @@ mod words;
 ghost use Rattle.std.specs.Prelude.{◌≡◌, IfOk, IsErrOf};
 ghost use Rattle.c_parse.specs.Grammar.{HasTree, HasNoTree};
 ghost use Rattle.c_parse.specs.Reading.{Gives};
-ghost use Rattle.c_parse.specs.Parse.{parse_of};
+ghost use Rattle.c_parse.specs.Straight.{parse_of};
 
 pub use fault::ParseFault;
 use std::alloc::Global;
@@ -19,7 +19,7 @@ pub use tree::{Piece, Print, Program, Statement, Term};
 /// The greatest length of a text.
 pub const TEXT_LIMIT: usize = 65536;
 
-#[tactic(auto, unfolding(crate::specs::Parse::parse_of))]
+#[tactic(auto, unfolding(crate::specs::Straight::parse_of))]
 fn read_tree(alloc: Global, text: &[u8]) -> Result<Program, ParseFault>
     ensures { Gives (λ program. program) result (parse_of text.now) }
 {
