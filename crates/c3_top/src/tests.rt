@@ -6,6 +6,8 @@ use c3_io::{Failed, MemSink, MemSource, Sink, Source};
 use std::alloc::Global;
 use std::test::Fail;
 
+mod checks;
+
 const TWO_RANKS: &str = "int main(void){int x=7;printf(\"%d\\n\",x);return 0;}";
 
 const SIXTEEN_RANKS: &str = "rank 0 exit 2 bytes 0\nrank 1 exit 2 bytes 0\nrank 2 exit 2 bytes 0\n\

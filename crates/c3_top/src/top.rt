@@ -1,18 +1,23 @@
-ghost use Rattle.std.specs.Prelude.{◌≡◌, ◌≤◌, IfOk, IfSome, map, string_bytes};
+ghost use Rattle.std.specs.Prelude.{◌≡◌, ◌≤◌, ℕ, IfOk, IfSome, length, map, string_bytes};
+ghost use Rattle.c_tree.specs.declared.kind.Kind.{Kind as Cause};
 ghost use Rattle.c3_io.specs.Faults.{Rose};
-ghost use Rattle.c_parse.specs.Grammar.{HasTree, HasNoTree};
-ghost use Rattle.c_parse.specs.declared.straight.tree.Program.{Program};
-ghost use Rattle.c3_top.specs.Command.{IsNoCommand};
-ghost use Rattle.c3_top.specs.Answer.{IsCommand, IsAnswerTo, IsPlainAnswer, IsDue, IsRefusal, IsWriteFault, Writes, Exactly};
+ghost use Rattle.c3_top.specs.Command.{IsCommand, IsNoCommand};
+ghost use Rattle.c3_top.specs.declared.command.Command.{Command as Asked};
+ghost use Rattle.c3_top.specs.Answer.{IsAnswerTo, IsCheckOf, IsAnswer, IsPlainAnswer, IsCheckAnswer, IsDue, IsGood, IsRefusal, IsRefusedFor, IsTooLong, IsWriteFault, Writes, Exactly, input_limit};
 
 use crate::Status;
-use crate::command::plain_ranks;
+use crate::command::{Command, asked};
+use crate::program::{NoProgram, program};
+use crate::refusal::refusal;
 use crate::run::run_text;
 use c_parse::straight::{ParseFault, TEXT_LIMIT, parse};
 use c_tree::Kind;
 use c3_base::NoMemory;
 use c3_io::{ReadAllFault, Sink, Source, read_all, write_all_to};
 use std::alloc::Global;
+
+/// The greatest length of the input, in bytes.
+const INPUT_LIMIT: usize = 1048576;
 
 /// A status, and the text that is written with it.
 #[derive(Drop)]
@@ -65,6 +70,45 @@ fn plain<S: Source>(alloc: Global, ranks: u16, source: &mut S) -> Result<Answer,
     }
 }
 
+/// The answer to `check` on the whole input.
+fn accepted(alloc: Global, input: &[u8]) -> Result<Answer, NoMemory>
+    requires { length input.now ≤ input_limit }
+    ensures { IfOk result (λ answer. IsCheckOf input.now answer.status answer.text.items) }
+{
+    match program(alloc, input) {
+        Ok(_) => notice(alloc, Status::Done, b"accepted\n"),
+        Err(NoProgram::Refused { kind, at }) => Ok(Answer {
+            status: Status::Refused { kind, at },
+            text: refusal(alloc, kind, at)?,
+        }),
+        Err(NoProgram::NoMemory) => Err(NoMemory),
+    }
+}
+
+/// The answer to `check`.
+fn check<S: Source>(alloc: Global, source: &mut S) -> Result<Answer, NoMemory>
+    ensures later { S.faults source.old ≤ S.faults source.new }
+    ensures answer { IfOk result (λ answer. IsCheckAnswer (S.left source.old) (Rose (S.faults source.old) (S.faults source.new)) answer.status answer.text.items) }
+{
+    match read_all(alloc, source, INPUT_LIMIT) {
+        Ok(input) => accepted(alloc, &input),
+        Err(ReadAllFault::TooLong) => notice(alloc, Status::InputLimit, b"input too long\n"),
+        Err(ReadAllFault::ReadFault) => notice(alloc, Status::ReadFault, b"read fault\n"),
+        Err(ReadAllFault::NoMemory) => Err(NoMemory),
+    }
+}
+
+/// The answer to a command.
+fn answer_to<S: Source>(alloc: Global, command: Command, source: &mut S) -> Result<Answer, NoMemory>
+    ensures later { S.faults source.old ≤ S.faults source.new }
+    ensures answer { IfOk result (λ answer. IsAnswer command (S.left source.old) (Rose (S.faults source.old) (S.faults source.new)) answer.status answer.text.items) }
+{
+    match command {
+        Command::Plain { ranks } => plain(alloc, ranks, source),
+        Command::Check => check(alloc, source),
+    }
+}
+
 /// What is answered, before anything is written.
 fn due_answer<S: Source>(
     alloc: Global,
@@ -75,8 +119,8 @@ fn due_answer<S: Source>(
     ensures untouched { IsNoCommand (map string_bytes words.now) → source.new ≡ source.old }
     ensures later { S.faults source.old ≤ S.faults source.new }
 {
-    match plain_ranks(words) {
-        Some(ranks) => plain(alloc, ranks, source),
+    match asked(words) {
+        Some(command) => answer_to(alloc, command, source),
         None => notice(alloc, Status::Usage, b"usage\n"),
     }
 }
@@ -95,10 +139,12 @@ pub fn c3_top<S: Source, K: Sink>(
 
     // Each answer comes exactly where it should, but for a fault in its place.
     ensures usage { Exactly (IsNoCommand (map string_bytes words.now)) Status.Usage result }
-    ensures refused { IfSome (S.left source.old) (λ input.
-        Exactly (IsCommand (map string_bytes words.now) × HasNoTree input) (Status.Refused Kind.NotYet 0) result) }
+    ensures refused { (kind : Cause) (at : ℕ) → IfSome (S.left source.old) (λ input.
+        Exactly ((c : Asked) × IsCommand (map string_bytes words.now) c × IsRefusedFor c input kind at) (Status.Refused kind at) result) }
     ensures done { IfSome (S.left source.old) (λ input.
-        Exactly (IsCommand (map string_bytes words.now) × (p : Program) × HasTree input p) Status.Done result) }
+        Exactly ((c : Asked) × IsCommand (map string_bytes words.now) c × IsGood c input) Status.Done result) }
+    ensures input_limit { IfSome (S.left source.old) (λ input.
+        Exactly ((c : Asked) × IsCommand (map string_bytes words.now) c × IsTooLong c input) Status.InputLimit result) }
 
     // A fault of reading or writing has its cause in this call, and no count falls.
     ensures read_fault { result ≡ Status.ReadFault → Rose (S.faults source.old) (S.faults source.new) }

@@ -1,13 +1,16 @@
 use Rattle.std.proofs.Common.{subst}
 use Rattle.std.specs.Io.KnownBytes.{Appends}
-use Rattle.c3_top.proofs.Exact.{written_from_due, refused_from_due, done_from_due}
+use Rattle.c3_top.proofs.Exact.{written_from_due, refused_from_due, done_from_due, long_from_due}
 use Rattle.c3_top.proofs.top.c3_top.Goals as goal
 
 pub returns-in-Ok-write_all_to-clause-written : goal.returns-in-Ok-write_all_to-clause-written
 returns-in-Ok-write_all_to-clause-written g c = written_from_due _ _ _ _ _ c.in-Ok.answer.status c.in-Ok.answer.text.items c.in-Ok.ensures.due (subst (λ l. Appends (g.K.Sink.out c.args.sink.now) (g.K.Sink.out c.write_all_to.new.sink) l) c.deref.ensures.value c.in-Ok-write_all_to.ensures.all)
 
 pub returns-in-Ok-write_all_to-clause-refused : goal.returns-in-Ok-write_all_to-clause-refused
-returns-in-Ok-write_all_to-clause-refused g c = refused_from_due _ _ _ c.in-Ok.answer.status c.in-Ok.answer.text.items c.in-Ok.ensures.due
+returns-in-Ok-write_all_to-clause-refused g c kind at = refused_from_due _ _ _ c.in-Ok.answer.status c.in-Ok.answer.text.items kind at c.in-Ok.ensures.due
 
 pub returns-in-Ok-write_all_to-clause-done : goal.returns-in-Ok-write_all_to-clause-done
 returns-in-Ok-write_all_to-clause-done g c = done_from_due _ _ _ c.in-Ok.answer.status c.in-Ok.answer.text.items c.in-Ok.ensures.due
+
+pub returns-in-Ok-write_all_to-clause-input_limit : goal.returns-in-Ok-write_all_to-clause-input_limit
+returns-in-Ok-write_all_to-clause-input_limit g c = long_from_due _ _ _ c.in-Ok.answer.status c.in-Ok.answer.text.items c.in-Ok.ensures.due

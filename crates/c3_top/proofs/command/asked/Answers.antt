@@ -1,0 +1,23 @@
+use Rattle.std.proofs.Common.{◌∙◌, ap, sym, subst}
+use Rattle.std.specs.Prelude.{map, string_bytes, codes}
+use Rattle.std.proofs.lemmas.Slice.Eq.{bytes_eq-Decides}
+use Rattle.c3_top.specs.Command.{IsCommand, count_of}
+use Rattle.c3_top.specs.declared.command.Command.TheVariants.{Check, Plain}
+use Rattle.std.specs.Prelude.{option_map}
+use Rattle.c3_top.proofs.Counts.{single_is, pair_is, plain_is, no_plain}
+use Rattle.c3_top.proofs.command.asked.Goals as goal
+
+pub returns-in-len1-clause-some : goal.returns-in-len1-clause-some
+returns-in-len1-clause-some c =
+    let one = single_is c.args.words.now c.word-item.result c.in-len1.len_at_least c.in-len1.len_below c.word-item.is in
+    subst (λ words. IsCommand words Check) (sym (ap (map string_bytes) one)) (sym c.as_str.ensures.value ∙ (bytes_eq-Decides c.as_str.result.now (codes "check")).0 (sym c.eq.ensures ∙ c.if-eq.true))
+
+pub returns-in-len2-clause-some : goal.returns-in-len2-clause-some
+returns-in-len2-clause-some c =
+    let two = pair_is c.args.words.now c.word-item-then-words-lt3.result c.count-item.result c.in-len2.len_at_least c.in-len2.len_below c.word-item-then-words-lt3.is c.count-item.is in
+    plain_is (map string_bytes c.args.words.now) (string_bytes c.word-item-then-words-lt3.result) (string_bytes c.count-item.result) c.plain.result (ap (map string_bytes) two) (sym c.as_str-then-words-lt3.ensures.value ∙ (bytes_eq-Decides c.as_str-then-words-lt3.result.now (codes "plain")).0 (sym c.eq-then-words-lt3.ensures ∙ c.if-eq-2.true)) (c.plain.ensures ∙ ap (λ w. option_map Plain (count_of w)) c.as_bytes.ensures.value)
+
+pub returns-in-len2-clause-none : goal.returns-in-len2-clause-none
+returns-in-len2-clause-none c =
+    let two = pair_is c.args.words.now c.word-item-then-words-lt3.result c.count-item.result c.in-len2.len_at_least c.in-len2.len_below c.word-item-then-words-lt3.is c.count-item.is in
+    no_plain (map string_bytes c.args.words.now) (string_bytes c.word-item-then-words-lt3.result) (string_bytes c.count-item.result) c.plain.result (ap (map string_bytes) two) (c.plain.ensures ∙ ap (λ w. option_map Plain (count_of w)) c.as_bytes.ensures.value)

@@ -1,0 +1,107 @@
+-- A statement of a tree, by what its parts are found to be.
+use Rattle.std.proofs.Common.{◌≡◌, ℕ, suc, ◌+◌, ◌<◌, Bool, true, false, List, [], ◌∷◌, ◌++◌, map, length, drop, get_or, drop-cons, add-one, append_assoc, Option, Some, None, refl, ap, sym, ◌∙◌}
+use Rattle.c_tree.specs.declared.tree.Block.{Block}
+use Rattle.c_tree.specs.declared.tree.BlockItem.{BlockItem}
+use Rattle.c_tree.specs.declared.tree.BlockItem.TheVariants as item
+use Rattle.c_tree.specs.declared.tree.Declaration.{Declaration}
+use Rattle.c_tree.specs.declared.tree.Arm.{Arm}
+use Rattle.c_tree.specs.declared.tree.Expr.{Expr}
+use Rattle.c_tree.specs.declared.tree.Stmt.{Stmt}
+use Rattle.c_tree.specs.declared.tree.Stmt.TheFolds.{fold-roll-Stmt, map-Stmt}
+use Rattle.c_tree.specs.declared.tree.Stmt.TheOpen.{Stmt-F}
+use Rattle.c_tree.specs.declared.tree.Stmt.TheVariants as stmt
+use Rattle.c_tree.specs.declared.tree.Stmt.TheViews.{roll-Stmt}
+use Rattle.c_kernel.specs.declared.types.CType.{CType}
+use Rattle.c_rules.specs.declared.fault.Fault.{Fault}
+use Rattle.c_rules.specs.declared.signature.Signature.{Signature}
+use Rattle.c_rules.specs.Judged.{gathered}
+use Rattle.c_rules.proofs.Gathered.{joined, joined_more}
+use Rattle.c_rules.specs.Scope.{Bytes, Scope}
+use Rattle.c_check.specs.Statement.{Walk, Node, statement_node, walked, walk_as, walk_all, scoped, one, later_arm, walked_guarded, walked_arm, walked_later, block_item, node_item, branches, node_arm, walked_items, walked_branches}
+use Rattle.c_check.specs.Program.{body_item}
+use Rattle.c_kernel.specs.declared.program.Stmt.{Stmt as Typed}
+use Rattle.c_kernel.specs.declared.program.Stmt.TheVariants as typed
+
+map_same : {A B : Type 0} (f g : A → B) → ((x : A) → f x ≡ g x) → (xs : List A) → map f xs ≡ map g xs
+map_same f g e [] = refl
+map_same f g e (x ∷ xs) = ap (λ y. y ∷ map f xs) (e x) ∙ ap (λ ys. g x ∷ ys) (map_same f g e xs)
+
+item_cases : (P : BlockItem Stmt → Type 0) → ((d : Declaration) → P (item.Declaration d)) → ((x : Stmt) → P (item.Statement x)) → (x : BlockItem Stmt) → P x
+item_cases P d w (item.Declaration x) = d x
+item_cases P d w (item.Statement x) = w x
+
+-- ---- one more of a list
+
+drop_next : {A : Type 0} (xs : List A) (i : ℕ) (x : A) → i < length xs → x ≡ get_or xs i x → drop i xs ≡ x ∷ drop (i + 1) xs
+drop_next xs i x h e =
+    let a : drop i xs ≡ get_or xs i x ∷ drop (suc i) xs = drop-cons xs i x h in
+    let b : i + 1 ≡ suc i = add-one i in
+    cc
+
+pub step_found : {A : Type 0} (w : Walk A) (ws : List (Walk A)) (s t : Scope) (all all' : Option (List A)) (x : Option A) (whole : Option (List A)) → joined all (walk_all (w ∷ ws) s).judged.found ≡ whole → all' ≡ gathered all x → x ≡ (w s).judged.found → t ≡ (w s).scope → joined all' (walk_all ws t).judged.found ≡ whole
+step_found w ws s t all all' x whole e e' h h' =
+    ap (λ a. joined a (walk_all ws t).judged.found) e'
+    ∙ ap (λ o. joined (gathered all o) (walk_all ws t).judged.found) h
+    ∙ ap (λ (u : Scope). joined (gathered all (w s).judged.found) (walk_all ws u).judged.found) h'
+    ∙ joined_more all (w s).judged.found (walk_all ws (w s).scope).judged.found
+    ∙ e
+
+pub step_faults : {A : Type 0} (w : Walk A) (ws : List (Walk A)) (s t : Scope) (fs fs' whole : List Fault) → fs ++ (walk_all (w ∷ ws) s).judged.faults ≡ whole → fs' ≡ fs ++ (w s).judged.faults → t ≡ (w s).scope → fs' ++ (walk_all ws t).judged.faults ≡ whole
+step_faults w ws s t fs fs' whole e e' h =
+    ap (λ (gs : List Fault). gs ++ (walk_all ws t).judged.faults) e'
+    ∙ append_assoc fs (w s).judged.faults (walk_all ws t).judged.faults
+    ∙ ap (λ (u : Scope). fs ++ ((w s).judged.faults ++ (walk_all ws u).judged.faults)) h
+    ∙ e
+
+pub step_scope : {A : Type 0} (w : Walk A) (ws : List (Walk A)) (s t whole : Scope) → (walk_all (w ∷ ws) s).scope ≡ whole → t ≡ (w s).scope → (walk_all ws t).scope ≡ whole
+step_scope w ws s t whole e h = ap (λ (u : Scope). (walk_all ws u).scope) h ∙ e
+
+module _ (functions : Bytes → Option Signature) (result : CType) where
+  pub walked_roll : (x : Stmt-F Stmt) → walked functions result (roll-Stmt x) ≡ statement_node functions result (map-Stmt Stmt (Node functions) (walked functions result) x)
+  walked_roll x = fold-roll-Stmt (Node functions) (statement_node functions result) x
+
+  pub walked_block : (b : Block Stmt) (looping : Bool) (s : Scope) → walked functions result (stmt.Block b) looping s ≡ walk_as typed.Block (scoped (walked_items functions result looping b.items)) s
+  walked_block b looping s =
+      ap (λ x. walked functions result x looping s) (sym (stmt.rolls-Block b))
+      ∙ ap (λ (w : Node functions). w looping s) (walked_roll (Stmt-F.Block b))
+      ∙ ap (λ (xs : List (BlockItem (Node functions))). walk_as typed.Block (scoped (walk_all (map (block_item functions looping) xs))) s) (map_same _ (node_item functions result) (item_cases _ (λ d. refl) (λ x. refl)) b.items)
+
+  pub walked_if : (at : ℕ) (e : Expr) (x : Stmt) (rest : List (Arm Stmt)) (last : Option Stmt) (looping : Bool) (s : Scope) → walked functions result (stmt.If at e x rest last) looping s ≡ walked_branches functions result looping e x rest last s
+  walked_if at e x rest None looping s =
+      ap (λ x. walked functions result x looping s) (sym (stmt.rolls-If at e x rest None))
+      ∙ ap (λ (w : Node functions). w looping s) (walked_roll (Stmt-F.If at e x rest None))
+      ∙ ap (λ (arms : List (Arm (Node functions))). branches functions looping e (walked functions result x) arms None s) (map_same _ (node_arm functions result) (λ a. refl) rest)
+  walked_if at e x rest (Some y) looping s =
+      ap (λ x. walked functions result x looping s) (sym (stmt.rolls-If at e x rest (Some y)))
+      ∙ ap (λ (w : Node functions). w looping s) (walked_roll (Stmt-F.If at e x rest (Some y)))
+      ∙ ap (λ (arms : List (Arm (Node functions))). branches functions looping e (walked functions result x) arms (Some (walked functions result y)) s) (map_same _ (node_arm functions result) (λ a. refl) rest)
+
+  pub in_block : (b : Block Stmt) (x : Stmt) (looping : Bool) (s : Scope) → x ≡ stmt.Block b → walked functions result x looping s ≡ walk_as typed.Block (scoped (walked_items functions result looping b.items)) s
+  in_block b x looping s e = ap (λ (y : Stmt). walked functions result y looping s) e ∙ walked_block b looping s
+
+  pub in_if : (at : ℕ) (e : Expr) (then : Stmt) (rest : List (Arm Stmt)) (last : Option Stmt) (x : Stmt) (looping : Bool) (s : Scope) → x ≡ stmt.If at e then rest last → walked functions result x looping s ≡ walked_branches functions result looping e then rest last s
+  in_if at e then rest last x looping s is = ap (λ (y : Stmt). walked functions result y looping s) is ∙ walked_if at e then rest last looping s
+
+  pub in_while : (at : ℕ) (e : Expr) (body x : Stmt) (looping : Bool) (s : Scope) → x ≡ stmt.While at e body → walked functions result x looping s ≡ walk_as (λ p. typed.While p.0 (one p.1)) (walked_guarded functions result true e body) s
+  in_while at e body x looping s is =
+      ap (λ (y : Stmt). walked functions result y looping s) (is ∙ sym (stmt.rolls-While at e body))
+      ∙ ap (λ (w : Node functions). w looping s) (walked_roll (Stmt-F.While at e body))
+
+  pub in_do : (at : ℕ) (body : Stmt) (e : Expr) (x : Stmt) (looping : Bool) (s : Scope) → x ≡ stmt.DoWhile at body e → walked functions result x looping s ≡ walk_as (λ p. typed.DoWhile (one p.1) p.0) (walked_guarded functions result true e body) s
+  in_do at body e x looping s is =
+      ap (λ (y : Stmt). walked functions result y looping s) (is ∙ sym (stmt.rolls-DoWhile at body e))
+      ∙ ap (λ (w : Node functions). w looping s) (walked_roll (Stmt-F.DoWhile at body e))
+
+  pub later_step : (looping : Bool) (rest : List (Arm Stmt)) (i : ℕ) (x : Arm Stmt) (s : Scope) → i < length rest → x ≡ get_or rest i x
+      → walked_later functions result looping (drop i rest) s ≡ walk_all (walked_arm functions result looping x.test x.then ∷ map (later_arm functions looping) (map (node_arm functions result) (drop (i + 1) rest))) s
+  later_step looping rest i x s h e = ap (λ (xs : List (Arm Stmt)). walked_later functions result looping xs s) (drop_next rest i x h e)
+
+  -- ---- a function's body stands in no loop
+
+  body_walks : (xs : List (BlockItem Stmt)) → map (body_item functions result) xs ≡ map (block_item functions false) (map (node_item functions result) xs)
+  body_walks [] = refl
+  body_walks (item.Declaration d ∷ xs) = ap (λ (ws : List (Walk Typed)). body_item functions result (item.Declaration d) ∷ ws) (body_walks xs)
+  body_walks (item.Statement x ∷ xs) = ap (λ (ws : List (Walk Typed)). body_item functions result (item.Statement x) ∷ ws) (body_walks xs)
+
+  pub in_body : (xs : List (BlockItem Stmt)) (s : Scope) → walked_items functions result false xs s ≡ walk_all (map (body_item functions result) xs) s
+  in_body xs s = sym (ap (λ (ws : List (Walk Typed)). walk_all ws s) (body_walks xs))

@@ -1,0 +1,13 @@
+pub mod SmallTrees
+pub mod Examples
+pub mod TypedExamples
+pub mod Nodes
+pub mod Least
+pub mod TypedParts
+pub mod TypedExpressions
+pub mod TypedStatements
+pub mod TypedTree
+pub mod Verdicts
+pub mod Tables
+pub mod InOrder
+pub mod Bodies

@@ -1,0 +1,221 @@
+-- Trees of small programs, and what the definition says of them.
+use Rattle.std.proofs.Common.{◌≡◌, ap, ℕ, List, [], ◌∷◌, Option, Some, Bool, codes}
+use Rattle.c_tree.specs.declared.tree.Item.{Item}
+use Rattle.c_tree.specs.declared.tree.Heading.{Heading}
+use Rattle.c_tree.specs.declared.tree.Parameter.{Parameter}
+use Rattle.c_tree.specs.declared.tree.Bound.{Bound}
+use Rattle.c_tree.specs.declared.tree.Name.{Name}
+use Rattle.c_tree.specs.declared.tree.Number.{Number}
+use Rattle.c_tree.specs.declared.tree.TypeSpecifier.{TypeSpecifier}
+use Rattle.c_tree.specs.declared.tree.Declaration.{Declaration}
+use Rattle.c_tree.specs.declared.tree.InitDeclarator.{InitDeclarator}
+use Rattle.c_tree.specs.declared.tree.Block.{Block}
+use Rattle.c_tree.specs.declared.tree.BlockItem.{BlockItem}
+use Rattle.c_tree.specs.declared.tree.Arm.{Arm}
+use Rattle.c_tree.specs.declared.tree.ForStart.{ForStart}
+use Rattle.c_tree.specs.declared.tree.SimpleStatement.{SimpleStatement}
+use Rattle.c_tree.specs.declared.tree.Mark.TheVariants as mark
+use Rattle.c_tree.specs.declared.tree.MpiCall.TheVariants as mpi
+use Rattle.c_tree.specs.declared.tree.Constant.{Constant}
+use Rattle.c_tree.specs.declared.tree.Access.{Access}
+use Rattle.c_tree.specs.declared.tree.MemberName.{MemberName}
+use Rattle.c_tree.specs.declared.tree.Link.{Link}
+use Rattle.c_tree.specs.declared.tree.Expr.{Expr}
+use Rattle.c_tree.specs.declared.tree.Expr.TheFolds.{fold-roll-Expr, map-Expr}
+use Rattle.c_tree.specs.declared.tree.Expr.TheOpen.{Expr-F}
+use Rattle.c_tree.specs.declared.tree.Expr.TheViews.{roll-Expr}
+use Rattle.c_tree.specs.declared.tree.Stmt.{Stmt}
+use Rattle.c_tree.specs.declared.tree.Stmt.TheFolds.{fold-roll-Stmt, map-Stmt}
+use Rattle.c_tree.specs.declared.tree.Stmt.TheOpen.{Stmt-F}
+use Rattle.c_tree.specs.declared.tree.Stmt.TheViews.{roll-Stmt}
+use Rattle.c_tree.specs.declared.token.Operator.{Operator}
+use Rattle.c_tree.specs.declared.kind.Kind.{Kind}
+use Rattle.c_kernel.specs.declared.types.CType.{CType}
+use Rattle.c_kernel.specs.declared.types.CType.TheVariants.{Integer}
+use Rattle.c_kernel.specs.declared.types.IntegerType.{IntegerType}
+use Rattle.c_kernel.specs.declared.types.IntegerType.TheVariants as integer
+use Rattle.c_kernel.specs.declared.program.Program.{Program}
+use Rattle.c_kernel.specs.declared.program.Stmt.{Stmt as Form}
+use Rattle.c_kernel.specs.declared.program.Stmt.TheVariants as typed
+use Rattle.c_kernel.specs.declared.program.Action.TheVariants as action
+use Rattle.c_kernel.specs.declared.program.Expr.{Expr as Term}
+use Rattle.c_kernel.specs.declared.program.Expr.TheVariants as term
+use Rattle.c_kernel.specs.declared.program.Link.{Link as TypedLink}
+use Rattle.c_kernel.specs.declared.program.BinaryOperator.{BinaryOperator}
+use Rattle.c_rules.specs.declared.fault.Fault.{Fault}
+use Rattle.c_rules.specs.declared.signature.Signature.{Signature}
+use Rattle.c_rules.specs.Judged.{Judged}
+use Rattle.c_rules.specs.Scope.{Bytes, Scope}
+use Rattle.c_check.specs.Expression as expression
+use Rattle.c_check.specs.Expression.{Seen, seen}
+use Rattle.c_check.specs.Statement as statement
+use Rattle.c_check.specs.Statement.{Node, walked}
+use Rattle.c_check.specs.Program.{judged_tree}
+
+-- ---- trees
+
+abbrev pub named : ℕ → List ℕ → Name
+named at bytes = record { at = at; bytes = bytes }
+
+abbrev pub figure : ℕ → ℕ → Bool → Number
+figure at value long = record { at = at; value = value; long = long }
+
+abbrev pub parameter : TypeSpecifier → ℕ → Option Name → Option Bound → Parameter
+parameter t stars name array = record { specifier = t; stars = stars; name = name; array = array }
+
+abbrev pub heading : TypeSpecifier → ℕ → Name → List Parameter → Heading
+heading t stars name parameters = record { specifier = t; stars = stars; name = name; parameters = parameters }
+
+abbrev pub variable : ℕ → Name → List Number → Option Expr → InitDeclarator
+variable stars name sizes value = record { stars = stars; name = name; sizes = sizes; value = value }
+
+abbrev pub declaration : TypeSpecifier → List InitDeclarator → Declaration
+declaration t ds = record { specifier = t; declarators = ds }
+
+abbrev pub number : Number → Expr
+number n = roll-Expr (Expr-F.Number n)
+
+abbrev pub character : ℕ → ℕ → Expr
+character at n = roll-Expr (Expr-F.Character at n)
+
+abbrev pub word : ℕ → Constant → Expr
+word at c = roll-Expr (Expr-F.Constant at c)
+
+abbrev pub name : Name → Expr
+name n = roll-Expr (Expr-F.Name n)
+
+abbrev pub call : Name → List Expr → Expr
+call n es = roll-Expr (Expr-F.Call n es)
+
+abbrev pub allocated : ℕ → Expr → Expr
+allocated at e = roll-Expr (Expr-F.Malloc at e)
+
+abbrev pub size : ℕ → TypeSpecifier → ℕ → Expr
+size at t stars = roll-Expr (Expr-F.SizeOf at (record { specifier = t; stars = stars }))
+
+abbrev pub group : ℕ → Expr → Expr
+group at e = roll-Expr (Expr-F.Group at e)
+
+abbrev pub cast : ℕ → TypeSpecifier → ℕ → Expr → Expr
+cast at t stars e = roll-Expr (Expr-F.Cast at (record { specifier = t; stars = stars }) e)
+
+abbrev pub prefix : ℕ → Operator → Expr → Expr
+prefix at o e = roll-Expr (Expr-F.Prefix at o e)
+
+abbrev pub index : Expr → ℕ → Expr → Expr
+index a at i = roll-Expr (Expr-F.Index a at i)
+
+abbrev pub member : Expr → ℕ → Access → MemberName → Expr
+member a at how n = roll-Expr (Expr-F.Member a at how n)
+
+abbrev pub link : Operator → Expr → Link Expr
+link o e = record { operator = o; operand = e }
+
+abbrev pub chain : Expr → List (Link Expr) → Expr
+chain a ls = roll-Expr (Expr-F.Chain a ls)
+
+abbrev pub choice : Expr → Expr → Expr → Expr
+choice c a b = roll-Expr (Expr-F.Choice c a b)
+
+abbrev pub block : ℕ → List (BlockItem Stmt) → Block Stmt
+block at items = record { at = at; items = items }
+
+abbrev pub empty : ℕ → Stmt
+empty at = roll-Stmt (Stmt-F.Empty at)
+
+abbrev pub break : ℕ → Stmt
+break at = roll-Stmt (Stmt-F.Break at)
+
+abbrev pub continue : ℕ → Stmt
+continue at = roll-Stmt (Stmt-F.Continue at)
+
+abbrev pub compound : Block Stmt → Stmt
+compound b = roll-Stmt (Stmt-F.Block b)
+
+abbrev pub arm : Expr → Stmt → Arm Stmt
+arm e x = record { test = e; then = x }
+
+abbrev pub branch : ℕ → Expr → Stmt → List (Arm Stmt) → Option Stmt → Stmt
+branch at e x arms last = roll-Stmt (Stmt-F.If at e x arms last)
+
+abbrev pub while : ℕ → Expr → Stmt → Stmt
+while at e x = roll-Stmt (Stmt-F.While at e x)
+
+abbrev pub do_while : ℕ → Stmt → Expr → Stmt
+do_while at x e = roll-Stmt (Stmt-F.DoWhile at x e)
+
+abbrev pub for : ℕ → Option ForStart → Option Expr → Option SimpleStatement → Stmt → Stmt
+for at i e n x = roll-Stmt (Stmt-F.For at i e n x)
+
+abbrev pub return : ℕ → Option Expr → Stmt
+return at e = roll-Stmt (Stmt-F.Return at e)
+
+abbrev pub print : ℕ → ℕ → List ℕ → List Expr → Stmt
+print at format bytes es = roll-Stmt (Stmt-F.Print at (record { at = format; bytes = bytes }) es)
+
+abbrev pub freed : ℕ → Expr → Stmt
+freed at e = roll-Stmt (Stmt-F.Free at e)
+
+abbrev pub marked : ℕ → Stmt
+marked at = roll-Stmt (Stmt-F.Mark (mark.Call at))
+
+abbrev pub finalize : ℕ → Stmt
+finalize at = roll-Stmt (Stmt-F.Mpi (mpi.Finalize at))
+
+abbrev pub simple : SimpleStatement → Stmt
+simple x = roll-Stmt (Stmt-F.Simple x)
+
+abbrev pub char : CType
+char = Integer integer.Char
+
+abbrev pub int : CType
+int = Integer integer.Int
+
+abbrev pub long : CType
+long = Integer integer.Long
+
+-- ---- what the definition says
+
+pub seen_roll : (functions : Bytes → Option Signature) (s : Scope) (x : Expr-F Expr) → seen functions s (roll-Expr x) ≡ expression.node functions s (map-Expr Expr Seen (seen functions s) x)
+seen_roll functions s x = fold-roll-Expr Seen (expression.node functions s) x
+
+pub walked_roll : (functions : Bytes → Option Signature) (result : CType) (x : Stmt-F Stmt) (looping : Bool) (s : Scope) → walked functions result (roll-Stmt x) looping s ≡ statement.statement_node functions result (map-Stmt Stmt (Node functions) (walked functions result) x) looping s
+walked_roll functions result x looping s = ap (λ w. w looping s) (fold-roll-Stmt (Node functions) (statement.statement_node functions result) x)
+
+abbrev pub fault : Kind → ℕ → Fault
+fault kind at = record { kind = kind; at = at }
+
+abbrev pub broken : List Item → ℕ → List Fault
+broken items length = (judged_tree (record { items = items }) length).faults
+
+abbrev pub whole : List Item → ℕ → Judged Program
+whole items length = judged_tree (record { items = items }) length
+
+abbrev pub accepted : Program → Judged Program
+accepted p = record { faults = []; found = Some p }
+
+abbrev pub program_of : Bytes → CType → ℕ → List CType → List Form → Program
+program_of name result parameters variables body =
+    record { functions = record { name = name; result = result; parameters = parameters; variables = variables; body = body } ∷ []; main = 0 }
+
+-- a main with a char, an int and a long, its first three variables
+abbrev pub three : List Form → Program
+three body = program_of (codes "main") int 0 (char ∷ int ∷ long ∷ []) (typed.Actions (action.Zero 0 ∷ []) ∷ typed.Actions (action.Zero 1 ∷ []) ∷ typed.Actions (action.Zero 2 ∷ []) ∷ body)
+
+abbrev pub c : Term
+c = term.Load (term.Variable 0) integer.Char
+
+abbrev pub i : Term
+i = term.Load (term.Variable 1) integer.Int
+
+abbrev pub l : Term
+l = term.Load (term.Variable 2) integer.Long
+
+abbrev pub bond : Option IntegerType → BinaryOperator → Term → TypedLink Term
+bond conversion o e = record { conversion = conversion; operator = o; operand = e }
+
+abbrev pub sets : ℕ → Term → Form
+sets x e = typed.Actions (action.Set (term.Variable x) e ∷ [])
+
+abbrev pub two : Term → TypedLink Term → Term
+two a b = term.Chain a (b ∷ [])

@@ -1,0 +1,12 @@
+use Rattle.std.proofs.Common.{◌≡◌, ◌++◌, drop}
+use Rattle.c_rules.specs.Scope.{scope_of, start}
+use Rattle.c_check.specs.Functions.{parameters_rules, with_parameters}
+use Rattle.c_check.proofs.heading.into_scope.Given as goal
+
+abbrev pub invariant-loop-p : goal.invariant-loop-p
+invariant-loop-p l =
+    let rest = drop l.p-index l.parameters in
+    record {
+      scope : with_parameters l.main (scope_of l.scope) rest ≡ with_parameters l.main start l.parameters;
+      faults : l.faults.items ++ parameters_rules l.main l.defined (scope_of l.scope) rest ≡ l.fn.faults.items ++ parameters_rules l.main l.defined start l.parameters;
+    }

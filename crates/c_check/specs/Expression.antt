@@ -1,0 +1,161 @@
+-- What an expression is found to be, where names are in scope.
+use Rattle.std.specs.Prelude.{ℕ, List, [], ◌∷◌, ◌++◌, map, Option, Some, None, option_map}
+use Rattle.std.specs.Str.{bytes_eq}
+use Rattle.c_tree.specs.declared.tree.Expr.{Expr}
+use Rattle.c_tree.specs.declared.tree.Expr.TheFolds.{fold-Expr}
+use Rattle.c_tree.specs.declared.tree.Expr.TheOpen.{Expr-F}
+use Rattle.c_tree.specs.declared.tree.Expr.TheOpen as expr
+use Rattle.c_tree.specs.declared.tree.Link.{Link}
+use Rattle.c_tree.specs.declared.tree.Name.{Name}
+use Rattle.c_tree.specs.declared.tree.TypeName.{TypeName}
+use Rattle.c_tree.specs.declared.token.Operator.{Operator}
+use Rattle.c_tree.specs.declared.kind.Kind.TheVariants.{NotYet, UnknownName, CallPlace}
+use Rattle.c_kernel.specs.declared.types.CType.{CType}
+use Rattle.c_rules.specs.declared.found.Found.{Found}
+use Rattle.c_rules.specs.declared.found.Run.{Run}
+use Rattle.c_rules.specs.declared.found.Right.{Right}
+use Rattle.c_rules.specs.declared.found.Right.TheVariants as right_side
+use Rattle.c_rules.specs.declared.found.Invocation.{Invocation}
+use Rattle.c_rules.specs.declared.scope.Entity.{Entity}
+use Rattle.c_rules.specs.declared.signature.Signature.{Signature}
+use Rattle.c_rules.specs.Judged.{Judged, breaks, by, refused, after, given, both, of_part, of_parts, as_part, together}
+use Rattle.c_rules.specs.Scope.{Bytes, Scope, visible}
+use Rattle.c_rules.specs.Types.{is_unbuilt, type_of}
+use Rattle.c_rules.specs.Rules as rules
+
+-- ---- the parts of nodes
+
+-- the type that a cast or sizeof names
+abbrev pub named_type : TypeName → Judged CType
+named_type t = by (breaks (is_unbuilt t.specifier t.stars) NotYet 0) (type_of t.specifier)
+
+abbrev pub next : Operator → Option Run → Option Found → Judged Run
+next o a b = given (both a b) (λ p. rules.link o p.0 p.1)
+
+-- a chain goes on from the left
+abbrev pub chain : Option Run → List (Link (Judged Found)) → Judged Run
+chain a [] = record { faults = []; found = a }
+chain a (l ∷ ls) =
+    let here = next l.operator a l.operand.found in
+    after (l.operand.faults ++ here.faults) (chain here.found ls)
+
+-- and ends
+abbrev pub ended : Option Run → Option Found
+ended a = option_map (λ run. rules.plain run.at run.kind (rules.closed run)) a
+
+abbrev pub whole_chain : Judged Found → List (Link (Judged Found)) → Judged Found
+whole_chain a ls =
+    let run = chain (option_map rules.begin a.found) ls in
+    record { faults = a.faults ++ run.faults; found = ended run.found }
+
+abbrev pub choice_of : Option Found → Option Found → Option Found → Judged Found
+choice_of c a b = given (both c (both a b)) (λ p. rules.choice p.0 p.1.0 p.1.1)
+
+abbrev pub whole_choice : Judged Found → Judged Found → Judged Found → Judged Found
+whole_choice c a b = after (c.faults ++ a.faults ++ b.faults) (choice_of c.found a.found b.found)
+
+abbrev pub whole_prefix : ℕ → Operator → Judged Found → Judged Found
+whole_prefix at o a = after a.faults (rules.prefix at o a.found)
+
+abbrev pub whole_cast : ℕ → Judged CType → Judged Found → Judged Found
+whole_cast at t a = of_parts t a (rules.cast at)
+
+-- ---- calls
+
+-- a call and what its arguments are found to be; its first byte may be a parenthesis
+pub record Called : Type 0 where
+  pub at : ℕ
+  pub name : Name
+  pub arguments : List (Judged Found)
+
+abbrev pub in_group : ℕ → Called → Called
+in_group at c = record c { at = at }
+
+-- an expression as a part of another, and as a call where it is one
+pub record Seen : Type 0 where
+  pub part : Judged Found
+  pub called : Option Called
+
+abbrev pub parts : List Seen → List (Judged Found)
+parts xs = map (λ x. x.part) xs
+
+abbrev pub part_link : Link Seen → Link (Judged Found)
+part_link l = record { operator = l.operator; operand = l.operand.part }
+
+module _ (functions : Bytes → Option Signature) (s : Scope) where
+  -- the function of a name that no variable hides
+  abbrev pub function_of : Name → Option Entity → Judged Signature
+  function_of n (Some x) = refused UnknownName n.at
+  function_of n None = elim (functions n.bytes) [
+    | Some f ↦ by [] f
+    | None ↦ refused UnknownName n.at
+  ]
+
+  abbrev pub callee : Name → Judged Signature
+  callee n = function_of n (visible s n.bytes)
+
+  abbrev pub invoked : Called → Judged Invocation
+  invoked c =
+      of_parts (callee c.name) (together c.arguments)
+      (rules.call (bytes_eq c.name.bytes rules.main_name) c.at c.name.at)
+
+  -- a call stands as a statement or the whole right side of =, and so is no part
+  abbrev pub misplaced : Called → Judged Found
+  misplaced c = of_part (invoked c) (λ i. refused CallPlace c.name.at)
+
+  -- ---- the nodes
+
+  abbrev pub part_of : Expr-F Seen → Judged Found
+  part_of (expr.Number n) = rules.number n
+  part_of (expr.Character at v) = rules.character at v
+  part_of (expr.Name n) = rules.name n.at (visible s n.bytes)
+  part_of (expr.Call n arguments) = misplaced (record { at = n.at; name = n; arguments = parts arguments })
+  part_of (expr.SizeOf at t) = of_part (named_type t) (rules.size_of at)
+  part_of (expr.Group at a) = of_part a.part (rules.group at)
+  part_of (expr.Cast at t a) = whole_cast at (named_type t) a.part
+  part_of (expr.Prefix at o a) = whole_prefix at o a.part
+  part_of (expr.Chain first rest) = whole_chain first.part (map part_link rest)
+  part_of (expr.Choice c a b) = whole_choice c.part a.part b.part
+  part_of (expr.Constant at c) = refused NotYet 0
+  part_of (expr.Malloc at a) = refused NotYet 0
+  part_of (expr.Index a at i) = refused NotYet 0
+  part_of (expr.Member a at how n) = refused NotYet 0
+
+  -- parentheses are no part of a call
+  abbrev pub call_in : Expr-F Seen → Option Called
+  call_in (expr.Call n arguments) = Some (record { at = n.at; name = n; arguments = parts arguments })
+  call_in (expr.Group at a) = option_map (in_group at) a.called
+  call_in _ = None
+
+  abbrev pub node : Expr-F Seen → Seen
+  node x = record { part = part_of x; called = call_in x }
+
+  abbrev pub seen : Expr → Seen
+  seen = fold-Expr Seen node
+
+  -- an expression that is a part of another or of a statement
+  abbrev pub judged : Expr → Judged Found
+  judged e = (seen e).part
+
+  -- several, a chain's operands, and a call
+  abbrev pub judged_all : List Expr → List (Judged Found)
+  judged_all es = parts (map seen es)
+
+  abbrev pub seen_link : Link Expr → Link Seen
+  seen_link l = record { operator = l.operator; operand = seen l.operand }
+
+  abbrev pub judged_links : List (Link Expr) → List (Link (Judged Found))
+  judged_links ls = map part_link (map seen_link ls)
+
+  abbrev pub call_of : ℕ → Name → List Expr → Called
+  call_of at n es = record { at = at; name = n; arguments = judged_all es }
+
+  -- the whole right side of =
+  abbrev pub right_of : Seen → Judged Right
+  right_of x = elim x.called [
+    | None ↦ as_part right_side.Value x.part
+    | Some c ↦ as_part right_side.Result (invoked c)
+  ]
+
+  abbrev pub right : Expr → Judged Right
+  right e = right_of (seen e)

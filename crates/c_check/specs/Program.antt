@@ -1,0 +1,133 @@
+-- What a program is found to be: accepted with its typed program, or refused for the first broken rule.
+use Rattle.std.specs.Prelude.{◌≡◌, ℕ, Bool, true, false, ◌||◌, ◌&&◌, List, [], ◌∷◌, ◌++◌, map, fold, length, nat_lt, ◌==◌, ◌⊎◌, Option, Some, None, if◌then◌else◌}
+use Rattle.c_tree.specs.declared.tree.Tree.{Tree}
+use Rattle.c_tree.specs.declared.tree.Item.{Item}
+use Rattle.c_tree.specs.declared.tree.Item.TheVariants as item
+use Rattle.c_tree.specs.declared.tree.Heading.{Heading}
+use Rattle.c_tree.specs.declared.tree.BlockItem.{BlockItem}
+use Rattle.c_tree.specs.declared.tree.BlockItem.TheVariants as block_item
+use Rattle.c_tree.specs.declared.tree.Stmt.{Stmt}
+use Rattle.c_tree.specs.declared.kind.Kind.{Kind}
+use Rattle.c_tree.specs.declared.kind.Kind.TheVariants as kind
+use Rattle.c_kernel.specs.declared.types.CType.{CType}
+use Rattle.c_kernel.specs.declared.program.Program.{Program}
+use Rattle.c_kernel.specs.declared.program.Function.{Function}
+use Rattle.c_kernel.specs.declared.program.Stmt.{Stmt as Typed}
+use Rattle.c_kernel.specs.declared.program.Stmt.TheVariants.{Actions}
+use Rattle.c_rules.specs.declared.fault.Fault.{Fault}
+use Rattle.c_rules.specs.declared.signature.Signature.{Signature}
+use Rattle.c_rules.specs.Judged.{Judged, by, refused, after, of_parts, as_part}
+use Rattle.c_rules.specs.Scope.{Bytes, Scope, start}
+use Rattle.c_rules.specs.Types.{type_of}
+use Rattle.c_rules.specs.Rules.{main_name}
+use Rattle.c_check.specs.Statement.{Walk, walk_all, walk_as, walked, declaration}
+use Rattle.c_check.specs.Functions.{is_main, parameters_of, with_parameters, heading_rules, signatures, number_in, next_number}
+
+-- ---- a function: its parameters and its body's outermost declarations are one scope
+
+module _ (functions : Bytes → Option Signature) where
+  abbrev pub body_item : CType → BlockItem Stmt → Walk Typed
+  body_item result (block_item.Declaration d) = walk_as Actions (declaration functions d)
+  body_item result (block_item.Statement x) = walked functions result x false
+
+  abbrev pub made : Heading → Scope → List Typed → Scope → Function
+  made h parameters steps inside = record {
+    name = h.name.bytes;
+    result = type_of h.specifier;
+    parameters = length parameters.variables;
+    variables = inside.variables;
+    body = steps;
+  }
+
+  abbrev pub body : Heading → List (BlockItem Stmt) → Judged Function
+  body h items =
+      let parameters = with_parameters (is_main h) start (parameters_of h.parameters) in
+      let inside = walk_all (map (body_item (type_of h.specifier)) items) parameters in
+      as_part (λ steps. made h parameters steps inside.scope) inside.judged
+
+  -- ---- the items in order, where so many definitions stand before
+
+  -- what an item adds: a definition one function
+  abbrev pub item_judged : ℕ → Item → Judged (List Function)
+  item_judged k (item.Include at header) = by [] []
+  item_judged k (item.Struct at name members) = refused kind.NotYet 0
+  item_judged k (item.Prototype h) = by (heading_rules functions k false h) []
+  item_judged k (item.Function h b) = after (heading_rules functions k true h) (as_part (λ f. f ∷ []) (body h b.items))
+
+  abbrev pub items_judged : ℕ → List Item → Judged (List Function)
+  items_judged k [] = by [] []
+  items_judged k (i ∷ is) = of_parts (item_judged k i) (items_judged (next_number k i) is) (λ fs gs. by [] (fs ++ gs))
+
+-- ---- the whole, in a text of this length
+
+abbrev pub main_in : ℕ → Option ℕ → Judged ℕ
+main_in length None = refused kind.NoMain length
+main_in length (Some k) = by [] k
+
+abbrev pub judged_tree : Tree → ℕ → Judged Program
+judged_tree tree length =
+    let functions = signatures 0 tree.items in
+    of_parts (items_judged functions 0 tree.items) (main_in length (number_in (functions main_name)))
+    (λ fs k. by [] (record { functions = fs; main = k }))
+
+-- ---- the first fault
+
+-- the place of a rule in the table; what isn't built yet goes first
+abbrev pub rank : Kind → ℕ
+rank kind.NotYet = 0
+rank kind.TextLimit = 1
+rank kind.Syntax = 2
+rank kind.TooDeep = 3
+rank kind.NumberRange = 4
+rank kind.UnknownName = 5
+rank kind.Redeclared = 6
+rank kind.NoMain = 7
+rank kind.BadMain = 8
+rank kind.NotScalar = 9
+rank kind.NotInteger = 10
+rank kind.NotPointer = 11
+rank kind.NotStruct = 12
+rank kind.NotPlace = 13
+rank kind.TypeMismatch = 14
+rank kind.ArgumentCount = 15
+rank kind.CallPlace = 16
+rank kind.MallocPlace = 17
+rank kind.ReturnValue = 18
+rank kind.LoopWord = 19
+rank kind.ArraySize = 20
+rank kind.IncompleteType = 21
+rank kind.PrototypeDiffers = 22
+rank kind.Undefined = 23
+rank kind.FormatMismatch = 24
+rank kind.Datatype = 25
+
+abbrev pub precedes : Fault → Fault → Bool
+precedes f g = nat_lt f.at g.at || ((f.at == g.at) && nat_lt (rank f.kind) (rank g.kind))
+
+abbrev pub sooner : Option Fault → Fault → Option Fault
+sooner None g = Some g
+sooner (Some f) g = Some (if precedes g f then g else f)
+
+-- of the broken rules the one at the lowest place, and there the first of the table
+abbrev pub first : List Fault → Option Fault
+first faults = fold sooner None faults
+
+-- it is one of them, and none precedes it
+abbrev pub Among : List Fault → Fault → Type 0
+Among [] f = ⊥
+Among (g ∷ gs) f = (f ≡ g) ⊎ Among gs f
+
+abbrev pub NonePrecedes : List Fault → Fault → Type 0
+NonePrecedes [] f = Unit {0}
+NonePrecedes (g ∷ gs) f = (precedes g f ≡ false) × NonePrecedes gs f
+
+abbrev pub IsLeast : List Fault → Fault → Type 0
+IsLeast faults f = Among faults f × NonePrecedes faults f
+
+-- a tree that breaks no rule, with its typed program
+abbrev pub Accepts : Tree → ℕ → Program → Type 0
+Accepts tree length program = ((judged_tree tree length).faults ≡ []) × ((judged_tree tree length).found ≡ Some program)
+
+-- a tree that breaks one
+abbrev pub Refuses : Tree → ℕ → Fault → Type 0
+Refuses tree length fault = IsLeast (judged_tree tree length).faults fault

@@ -1,0 +1,498 @@
+//! Expressions.
+
+ghost use Rattle.std.specs.Prelude.{◌≡◌, ◌++◌, IfOk, OnOk, Option, Some, map, option_map};
+ghost use Rattle.std.specs.Option.{option_copied};
+ghost use Rattle.c_rules.specs.Scope.{scope_of, visible};
+ghost use Rattle.c_rules.specs.Table.{called};
+ghost use Rattle.c_rules.specs.Judged as nodes;
+ghost use Rattle.c_check.specs.Expression.{judged};
+ghost use Rattle.c_check.specs.Expression as walk;
+ghost use Rattle.c_rules.specs.Rules as rules;
+
+use c_kernel::program::{
+    Arithmetic, BinaryOperator, Comparison, Direction, Expr as Term, UnaryOperator,
+};
+use c_kernel::{CType, IntegerType};
+use c_rules::fault::{Fault, rule};
+use c_rules::found::{Found, Invocation, Run};
+use c_rules::rules::{
+    arithmetic, begin, call, cast, choice, closed, comparison, constant, logical, negation, shift,
+    size_of, unary,
+};
+use c_rules::scope::{Entity, Scope};
+use c_rules::signature::{Signature, function};
+use c_rules::types::{is_unbuilt, type_of};
+use c_tree::tree::{Expr, Link, Name, TypeName};
+use c_tree::{Kind, Operator};
+use indexmap::IndexMap;
+use sqlite_items::{Boxed, Items};
+use std::alloc::{AllocError, Global};
+
+/// What an expression is found to be, or nothing where it breaks a rule. Its broken rules are noted.
+#[cycle(walk)]
+#[tactic(auto, using(std::proofs::Common::append_assoc))]
+pub fn expression(
+    alloc: Global,
+    faults: &mut Vec<Fault>,
+    functions: &IndexMap<Vec<u8>, Signature>,
+    scope: &Scope,
+    e: &Expr,
+) -> Result<Option<Found>, AllocError>
+    ensures found { IfOk result (λ found. found ≡ (judged (called functions.now.entries) (scope_of scope.now) e.now).found) }
+    ensures faults { OnOk result (faults.new.items ≡ faults.old.items ++ (judged (called functions.now.entries) (scope_of scope.now) e.now).faults) }
+{
+    match e {
+        Expr::Number(n) => Ok(Some(constant(alloc, n.at, n.value, width(n.long))?)),
+        Expr::Character { at, value } => Ok(Some(constant(alloc, *at, *value, IntegerType::Int)?)),
+        Expr::Name(n) => name(alloc, faults, scope, n),
+        Expr::Call { name, arguments } => {
+            misplaced(alloc, faults, functions, scope, name, arguments)
+        }
+        Expr::SizeOf { at, name } => match named_type(faults, name)? {
+            None => Ok(None),
+            Some(kind) => size_of(alloc, faults, *at, &kind),
+        },
+        Expr::Group { at, inner } => {
+            let a = expression(alloc, faults, functions, scope, inner.get())?;
+            Ok(group(*at, a))
+        }
+        Expr::Cast { at, name, operand } => {
+            whole_cast(alloc, faults, functions, scope, *at, name, operand)
+        }
+        Expr::Prefix {
+            at,
+            operator,
+            operand,
+        } => whole_prefix(alloc, faults, functions, scope, *at, *operator, operand),
+        Expr::Chain { first, rest } => {
+            let a = expression(alloc, faults, functions, scope, first.get())?;
+            let a = begun(alloc, a)?;
+            let run = chain(alloc, faults, functions, scope, a, rest)?;
+            ended(alloc, run)
+        }
+        Expr::Choice {
+            test,
+            then,
+            otherwise,
+        } => {
+            let c = expression(alloc, faults, functions, scope, test.get())?;
+            let a = expression(alloc, faults, functions, scope, then.get())?;
+            let b = expression(alloc, faults, functions, scope, otherwise.get())?;
+            choice_of(alloc, faults, c, a, b)
+        }
+        Expr::Constant { .. } | Expr::Malloc { .. } | Expr::Index { .. } | Expr::Member { .. } => {
+            rule(faults, true, Kind::NotYet, 0)?;
+            Ok(None)
+        }
+    }
+}
+
+#[cycle(walk)]
+#[tactic(auto, using(std::proofs::Common::append_assoc))]
+fn whole_cast(
+    alloc: Global,
+    faults: &mut Vec<Fault>,
+    functions: &IndexMap<Vec<u8>, Signature>,
+    scope: &Scope,
+    at: u32,
+    name: &TypeName,
+    operand: &Boxed<Expr>,
+) -> Result<Option<Found>, AllocError>
+    ensures found { IfOk result (λ found. found ≡ (walk.whole_cast at (walk.named_type name.now) (judged (called functions.now.entries) (scope_of scope.now) operand.now)).found) }
+    ensures faults { OnOk result (faults.new.items ≡ faults.old.items ++ (walk.whole_cast at (walk.named_type name.now) (judged (called functions.now.entries) (scope_of scope.now) operand.now)).faults) }
+{
+    let kind = named_type(faults, name)?;
+    let a = expression(alloc, faults, functions, scope, operand.get())?;
+    cast_of(alloc, faults, at, kind, a)
+}
+
+#[cycle(walk)]
+#[tactic(auto, using(std::proofs::Common::append_assoc))]
+fn whole_prefix(
+    alloc: Global,
+    faults: &mut Vec<Fault>,
+    functions: &IndexMap<Vec<u8>, Signature>,
+    scope: &Scope,
+    at: u32,
+    operator: Operator,
+    operand: &Boxed<Expr>,
+) -> Result<Option<Found>, AllocError>
+    ensures found { IfOk result (λ found. found ≡ (walk.whole_prefix at operator (judged (called functions.now.entries) (scope_of scope.now) operand.now)).found) }
+    ensures faults { OnOk result (faults.new.items ≡ faults.old.items ++ (walk.whole_prefix at operator (judged (called functions.now.entries) (scope_of scope.now) operand.now)).faults) }
+{
+    let a = expression(alloc, faults, functions, scope, operand.get())?;
+    prefix(alloc, faults, at, operator, a)
+}
+
+// A chain goes on from the left.
+#[cycle(walk)]
+#[tactic(auto, using(std::proofs::Common::append_assoc))]
+fn chain(
+    alloc: Global,
+    faults: &mut Vec<Fault>,
+    functions: &IndexMap<Vec<u8>, Signature>,
+    scope: &Scope,
+    first: Option<Run>,
+    links: &Items<Link<Expr>>,
+) -> Result<Option<Run>, AllocError>
+    ensures found { IfOk result (λ found. found ≡ (walk.chain first (walk.judged_links (called functions.now.entries) (scope_of scope.now) links.now)).found) }
+    ensures faults { OnOk result (faults.new.items ≡ faults.old.items ++ (walk.chain first (walk.judged_links (called functions.now.entries) (scope_of scope.now) links.now)).faults) }
+{
+    let mut run = first;
+    for x in links.as_slice() {
+        let operand = expression(alloc, faults, functions, scope, &x.operand)?;
+        run = next(alloc, faults, x.operator, run, operand)?;
+    }
+    Ok(run)
+}
+
+// What several expressions are found to be.
+#[cycle(walk)]
+#[tactic(auto, using(std::proofs::Common::append_assoc))]
+pub fn expressions(
+    alloc: Global,
+    faults: &mut Vec<Fault>,
+    functions: &IndexMap<Vec<u8>, Signature>,
+    scope: &Scope,
+    es: &[Expr],
+) -> Result<Option<Items<Found>>, AllocError>
+    ensures found { IfOk result (λ found. found ≡ (nodes.together (walk.judged_all (called functions.now.entries) (scope_of scope.now) es.now)).found) }
+    ensures faults { OnOk result (faults.new.items ≡ faults.old.items ++ (nodes.together (walk.judged_all (called functions.now.entries) (scope_of scope.now) es.now)).faults) }
+{
+    let mut found = Some(Items::new(alloc));
+    for e in es {
+        let one = expression(alloc, faults, functions, scope, e)?;
+        found = gather(found, one)?;
+    }
+    Ok(found)
+}
+
+// A call that is a part.
+#[cycle(walk)]
+#[tactic(auto, using(std::proofs::Common::append_assoc))]
+fn misplaced(
+    alloc: Global,
+    faults: &mut Vec<Fault>,
+    functions: &IndexMap<Vec<u8>, Signature>,
+    scope: &Scope,
+    name: &Name,
+    arguments: &Items<Expr>,
+) -> Result<Option<Found>, AllocError>
+    ensures found { IfOk result (λ found. found ≡ (walk.misplaced (called functions.now.entries) (scope_of scope.now) (walk.call_of (called functions.now.entries) (scope_of scope.now) name.now.at name.now arguments.now)).found) }
+    ensures faults { OnOk result (faults.new.items ≡ faults.old.items ++ (walk.misplaced (called functions.now.entries) (scope_of scope.now) (walk.call_of (called functions.now.entries) (scope_of scope.now) name.now.at name.now arguments.now)).faults) }
+{
+    let found = invoked(alloc, faults, functions, scope, name.at, name, arguments)?;
+    match found {
+        None => Ok(None),
+        Some(_) => {
+            rule(faults, true, Kind::CallPlace, name.at)?;
+            Ok(None)
+        }
+    }
+}
+
+/// What a call is found to be.
+#[cycle(walk)]
+#[tactic(auto, using(std::proofs::Common::append_assoc))]
+pub fn invoked(
+    alloc: Global,
+    faults: &mut Vec<Fault>,
+    functions: &IndexMap<Vec<u8>, Signature>,
+    scope: &Scope,
+    at: u32,
+    name: &Name,
+    arguments: &Items<Expr>,
+) -> Result<Option<Invocation>, AllocError>
+    ensures found { IfOk result (λ found. found ≡ (walk.invoked (called functions.now.entries) (scope_of scope.now) (walk.call_of (called functions.now.entries) (scope_of scope.now) at name.now arguments.now)).found) }
+    ensures faults { OnOk result (faults.new.items ≡ faults.old.items ++ (walk.invoked (called functions.now.entries) (scope_of scope.now) (walk.call_of (called functions.now.entries) (scope_of scope.now) at name.now arguments.now)).faults) }
+{
+    let f = callee(faults, functions, scope, name)?;
+    let values = expressions(alloc, faults, functions, scope, arguments.as_slice())?;
+    match f {
+        None => Ok(None),
+        Some(f) => match values {
+            None => Ok(None),
+            Some(values) => {
+                let main = name.bytes.as_slice() == b"main".as_slice();
+                call(alloc, faults, main, at, name.at, f, values)
+            }
+        },
+    }
+}
+
+// ---- the nodes
+
+/// Int, or long.
+fn width(long: bool) -> IntegerType
+    ensures { result ≡ rules.width long }
+{
+    if long {
+        IntegerType::Long
+    } else {
+        IntegerType::Int
+    }
+}
+
+fn name(
+    alloc: Global,
+    faults: &mut Vec<Fault>,
+    scope: &Scope,
+    name: &Name,
+) -> Result<Option<Found>, AllocError>
+    ensures found { IfOk result (λ found. found ≡ (rules.name name.now.at (visible (scope_of scope.now) name.now.bytes)).found) }
+    ensures faults { OnOk result (faults.new.items ≡ faults.old.items ++ (rules.name name.now.at (visible (scope_of scope.now) name.now.bytes)).faults) }
+{
+    match scope.find(name.bytes.as_slice()) {
+        Some(Entity::Variable(v)) => Ok(Some(Found {
+            at: name.at,
+            kind: v.kind.clone()?,
+            place: true,
+            term: Boxed::new(alloc, Term::Variable(v.number))?,
+        })),
+        Some(Entity::Parameter) | None => {
+            rule(faults, true, Kind::UnknownName, name.at)?;
+            Ok(None)
+        }
+    }
+}
+
+fn group(at: u32, a: Option<Found>) -> Option<Found>
+    ensures { result ≡ (nodes.given a (rules.group at)).found }
+{
+    match a {
+        None => None,
+        Some(a) => {
+            let Found {
+                at: _,
+                kind,
+                place,
+                term,
+            } = a;
+            Some(Found {
+                at,
+                kind,
+                place,
+                term,
+            })
+        }
+    }
+}
+
+// The type that a cast or sizeof names.
+fn named_type(faults: &mut Vec<Fault>, name: &TypeName) -> Result<Option<CType>, AllocError>
+    ensures found { IfOk result (λ found. found ≡ (walk.named_type name.now).found) }
+    ensures faults { OnOk result (faults.new.items ≡ faults.old.items ++ (walk.named_type name.now).faults) }
+{
+    if is_unbuilt(&name.specifier, name.stars) {
+        rule(faults, true, Kind::NotYet, 0)?;
+        return Ok(None);
+    }
+    Ok(Some(type_of(&name.specifier)))
+}
+
+fn cast_of(
+    alloc: Global,
+    faults: &mut Vec<Fault>,
+    at: u32,
+    kind: Option<CType>,
+    a: Option<Found>,
+) -> Result<Option<Found>, AllocError>
+    ensures found { IfOk result (λ found. found ≡ (nodes.given (nodes.both kind a) (λ p. rules.cast at p.0 p.1)).found) }
+    ensures faults { OnOk result (faults.new.items ≡ faults.old.items ++ (nodes.given (nodes.both kind a) (λ p. rules.cast at p.0 p.1)).faults) }
+{
+    match both(kind, a) {
+        None => Ok(None),
+        Some((kind, a)) => cast(alloc, faults, at, kind, a),
+    }
+}
+
+fn prefix(
+    alloc: Global,
+    faults: &mut Vec<Fault>,
+    at: u32,
+    operator: Operator,
+    a: Option<Found>,
+) -> Result<Option<Found>, AllocError>
+    ensures found { IfOk result (λ found. found ≡ (rules.prefix at operator a).found) }
+    ensures faults { OnOk result (faults.new.items ≡ faults.old.items ++ (rules.prefix at operator a).faults) }
+{
+    match operator {
+        Operator::Plus => signed(alloc, faults, UnaryOperator::Plus, at, a),
+        Operator::Minus => signed(alloc, faults, UnaryOperator::Minus, at, a),
+        Operator::Tilde => signed(alloc, faults, UnaryOperator::Complement, at, a),
+        Operator::Not => match a {
+            None => Ok(None),
+            Some(a) => negation(alloc, faults, at, a),
+        },
+        _ => {
+            rule(faults, true, Kind::NotYet, 0)?;
+            Ok(None)
+        }
+    }
+}
+
+fn signed(
+    alloc: Global,
+    faults: &mut Vec<Fault>,
+    operator: UnaryOperator,
+    at: u32,
+    a: Option<Found>,
+) -> Result<Option<Found>, AllocError>
+    ensures found { IfOk result (λ found. found ≡ (nodes.given a (rules.unary operator at)).found) }
+    ensures faults { OnOk result (faults.new.items ≡ faults.old.items ++ (nodes.given a (rules.unary operator at)).faults) }
+{
+    match a {
+        None => Ok(None),
+        Some(a) => unary(alloc, faults, operator, at, a),
+    }
+}
+
+// A chain begins.
+fn begun(alloc: Global, a: Option<Found>) -> Result<Option<Run>, AllocError>
+    ensures { IfOk result (λ run. run ≡ option_map rules.begin a) }
+{
+    match a {
+        None => Ok(None),
+        Some(a) => Ok(Some(begin(alloc, a)?)),
+    }
+}
+
+// A chain goes on by one operand.
+fn next(
+    alloc: Global,
+    faults: &mut Vec<Fault>,
+    operator: Operator,
+    a: Option<Run>,
+    b: Option<Found>,
+) -> Result<Option<Run>, AllocError>
+    ensures found { IfOk result (λ run. run ≡ (walk.next operator a b).found) }
+    ensures faults { OnOk result (faults.new.items ≡ faults.old.items ++ (walk.next operator a b).faults) }
+{
+    match both(a, b) {
+        None => Ok(None),
+        Some((a, b)) => link(alloc, faults, operator, a, b),
+    }
+}
+
+/// A chain with one operator and operand more.
+pub fn link(
+    alloc: Global,
+    faults: &mut Vec<Fault>,
+    operator: Operator,
+    a: Run,
+    b: Found,
+) -> Result<Option<Run>, AllocError>
+    ensures found { IfOk result (λ run. run ≡ (rules.link operator a b).found) }
+    ensures faults { OnOk result (faults.new.items ≡ faults.old.items ++ (rules.link operator a b).faults) }
+{
+    match operator {
+        Operator::Star => arithmetic(alloc, faults, Arithmetic::Multiply, a, b),
+        Operator::Slash => arithmetic(alloc, faults, Arithmetic::Divide, a, b),
+        Operator::Percent => arithmetic(alloc, faults, Arithmetic::Remainder, a, b),
+        Operator::Plus => arithmetic(alloc, faults, Arithmetic::Add, a, b),
+        Operator::Minus => arithmetic(alloc, faults, Arithmetic::Subtract, a, b),
+        Operator::And => arithmetic(alloc, faults, Arithmetic::And, a, b),
+        Operator::Caret => arithmetic(alloc, faults, Arithmetic::ExclusiveOr, a, b),
+        Operator::Or => arithmetic(alloc, faults, Arithmetic::InclusiveOr, a, b),
+        Operator::ShiftLeft => shift(alloc, faults, Direction::Left, a, b),
+        Operator::ShiftRight => shift(alloc, faults, Direction::Right, a, b),
+        Operator::Less => comparison(alloc, faults, Comparison::Less, a, b),
+        Operator::Greater => comparison(alloc, faults, Comparison::Greater, a, b),
+        Operator::LessEqual => comparison(alloc, faults, Comparison::LessEqual, a, b),
+        Operator::GreaterEqual => comparison(alloc, faults, Comparison::GreaterEqual, a, b),
+        Operator::EqualEqual => comparison(alloc, faults, Comparison::Equal, a, b),
+        Operator::NotEqual => comparison(alloc, faults, Comparison::NotEqual, a, b),
+        Operator::AndAnd => logical(alloc, faults, BinaryOperator::And, a, b),
+        Operator::OrOr => logical(alloc, faults, BinaryOperator::Or, a, b),
+        Operator::Not | Operator::Tilde => {
+            rule(faults, true, Kind::NotYet, 0)?;
+            Ok(None)
+        }
+    }
+}
+
+// A chain ends.
+fn ended(alloc: Global, a: Option<Run>) -> Result<Option<Found>, AllocError>
+    ensures { IfOk result (λ found. found ≡ walk.ended a) }
+{
+    match a {
+        None => Ok(None),
+        Some(a) => Ok(Some(closed(alloc, a)?)),
+    }
+}
+
+fn choice_of(
+    alloc: Global,
+    faults: &mut Vec<Fault>,
+    c: Option<Found>,
+    a: Option<Found>,
+    b: Option<Found>,
+) -> Result<Option<Found>, AllocError>
+    ensures found { IfOk result (λ found. found ≡ (walk.choice_of c a b).found) }
+    ensures faults { OnOk result (faults.new.items ≡ faults.old.items ++ (walk.choice_of c a b).faults) }
+{
+    match both(c, both(a, b)) {
+        None => Ok(None),
+        Some((c, (a, b))) => choice(alloc, faults, c, a, b),
+    }
+}
+
+// The function of a name that no variable hides.
+fn callee<'f>(
+    faults: &mut Vec<Fault>,
+    functions: &'f IndexMap<Vec<u8>, Signature>,
+    scope: &Scope,
+    name: &Name,
+) -> Result<Option<&'f Signature>, AllocError>
+    ensures found { IfOk result (λ found. option_copied found ≡ (walk.callee (called functions.now.entries) (scope_of scope.now) name.now).found) }
+    ensures faults { OnOk result (faults.new.items ≡ faults.old.items ++ (walk.callee (called functions.now.entries) (scope_of scope.now) name.now).faults) }
+{
+    match scope.find(name.bytes.as_slice()) {
+        Some(_) => {
+            rule(faults, true, Kind::UnknownName, name.at)?;
+            Ok(None)
+        }
+        None => match function(functions, name.bytes.as_slice()) {
+            Some(f) => Ok(Some(f)),
+            None => {
+                rule(faults, true, Kind::UnknownName, name.at)?;
+                Ok(None)
+            }
+        },
+    }
+}
+
+/// Both, where both are sound.
+pub fn both<A, B>(a: Option<A>, b: Option<B>) -> Option<(A, B)>
+where
+    A: Drop,
+    B: Drop,
+    ensures { result ≡ nodes.both a b }
+{
+    match a {
+        None => None,
+        Some(a) => match b {
+            None => None,
+            Some(b) => Some((a, b)),
+        },
+    }
+}
+
+/// One more, where all are sound.
+pub fn gather<T: Drop>(
+    all: Option<Items<T>>,
+    one: Option<T>,
+) -> Result<Option<Items<T>>, AllocError>
+    ensures { IfOk result (λ found. found ≡ nodes.gathered all one) }
+{
+    match all {
+        None => Ok(None),
+        Some(mut items) => match one {
+            None => Ok(None),
+            Some(item) => {
+                items.push(item)?;
+                Ok(Some(items))
+            }
+        },
+    }
+}

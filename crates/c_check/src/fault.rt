@@ -1,0 +1,67 @@
+//! Why a tree is no program, and the first of its broken rules.
+
+ghost use Rattle.std.specs.Prelude.{◌≡◌};
+ghost use Rattle.c_check.specs.Program as program;
+ghost use Rattle.c_check.specs.declared.fault.CheckFault.TheVariants.{NoMemory};
+
+use c_rules::fault::Fault;
+use c_tree::Kind;
+use std::alloc::AllocError;
+use thiserror::Error;
+
+/// Why a tree is no program. A place is the offset of a byte in the text.
+#[derive(Clone, Copy, Debug, Error, PartialEq, Eq)]
+pub enum CheckFault {
+    /// This rule is broken at the lowest place, and of several there it is the first of the table.
+    #[error("{kind:?} at byte {at}")]
+    Broken { kind: Kind, at: u32 },
+    #[error("no memory")]
+    NoMemory,
+}
+
+impl From<AllocError> for CheckFault {
+    ghost from_gives = { λ _ e. e ≡ NoMemory };
+
+    fn from(_: AllocError) -> Self {
+        CheckFault::NoMemory
+    }
+}
+
+/// The first of the faults.
+pub fn first(faults: &[Fault]) -> Option<Fault>
+    ensures { result ≡ program.first faults.now }
+{
+    let mut found = None;
+    for fault in faults {
+        found = sooner(found, *fault);
+    }
+    found
+}
+
+fn sooner(found: Option<Fault>, fault: Fault) -> Option<Fault>
+    ensures { result ≡ program.sooner found fault }
+{
+    match found {
+        None => Some(fault),
+        Some(earlier) => {
+            if precedes(fault, earlier) {
+                Some(fault)
+            } else {
+                Some(earlier)
+            }
+        }
+    }
+}
+
+fn precedes(f: Fault, g: Fault) -> bool
+    ensures { result ≡ program.precedes f g }
+{
+    f.at < g.at || (f.at == g.at && rank(f.kind) < rank(g.kind))
+}
+
+// The place of a rule in the table.
+fn rank(kind: Kind) -> u8
+    ensures { result ≡ program.rank kind }
+{
+    kind as u8
+}

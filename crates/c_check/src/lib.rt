@@ -1,0 +1,109 @@
+//! The checker: which trees are programs, and their typed programs.
+#![tactic(auto)]
+
+mod body;
+mod declaration;
+mod expression;
+mod fault;
+mod form;
+mod heading;
+mod item;
+mod single;
+mod statement;
+mod table;
+
+ghost use Rattle.std.specs.Prelude.{◌≡◌, ◌++◌, IfOk, OnOk, IfSome, option_map};
+ghost use Rattle.std.specs.Option.{option_copied};
+ghost use Rattle.c_rules.specs.Judged as nodes;
+ghost use Rattle.c_rules.specs.Table as tables;
+ghost use Rattle.c_rules.specs.Rules.{main_name};
+ghost use Rattle.c_check.specs.Check.{Verdict, Judges, said};
+ghost use Rattle.c_check.specs.Functions.{number_in};
+ghost use Rattle.c_check.specs.Program.{judged_tree, main_in};
+
+use c_kernel::program::{Function, Program};
+use c_rules::fault::{Fault, rule};
+use c_rules::signature::{Signature, function};
+use c_tree::Kind;
+use c_tree::tree::Tree;
+use expression::both;
+pub use fault::CheckFault;
+use fault::first;
+use indexmap::IndexMap;
+use item::items;
+use sqlite_items::Items;
+use std::alloc::{AllocError, Global};
+use table::table;
+
+/// The typed program of the tree of a text of so many bytes, or its first broken rule.
+pub fn check(alloc: Global, tree: &Tree, length: u32) -> Result<Program, CheckFault>
+    // The answer is right, and no other would be.
+    ensures right { IfSome (said result) (Judges tree.now length) }
+    ensures exact { (v : Verdict) → Judges tree.now length v → IfSome (said result) (λ w. w ≡ v) }
+{
+    let mut faults = Vec::new(alloc);
+    let found = judged(alloc, &mut faults, tree, length)?;
+    match first(&faults) {
+        Some(fault) => Err(CheckFault::Broken {
+            kind: fault.kind,
+            at: fault.at,
+        }),
+        None => match found {
+            Some(program) => Ok(program),
+            None => unreachable!(),
+        },
+    }
+}
+
+// What a tree is found to be, or nothing where it breaks a rule. Its broken rules are noted.
+fn judged(
+    alloc: Global,
+    faults: &mut Vec<Fault>,
+    tree: &Tree,
+    length: u32,
+) -> Result<Option<Program>, AllocError>
+    ensures found { IfOk result (λ found. found ≡ (judged_tree tree.now length).found) }
+    ensures faults { OnOk result (faults.new.items ≡ faults.old.items ++ (judged_tree tree.now length).faults) }
+{
+    let functions = table(alloc, tree.items.as_slice())?;
+    let defined = items(alloc, faults, &functions, tree.items.as_slice())?;
+    let main = main_of(faults, &functions, length)?;
+    Ok(whole(defined, main))
+}
+
+// The number of the function that a program starts in.
+fn main_of(
+    faults: &mut Vec<Fault>,
+    functions: &IndexMap<Vec<u8>, Signature>,
+    length: u32,
+) -> Result<Option<usize>, AllocError>
+    ensures found { IfOk result (λ found. found ≡ (main_in length (number_in (tables.called functions.now.entries main_name))).found) }
+    ensures faults { OnOk result (faults.new.items ≡ faults.old.items ++ (main_in length (number_in (tables.called functions.now.entries main_name))).faults) }
+{
+    match number(function(functions, b"main")) {
+        None => {
+            rule(faults, true, Kind::NoMain, length)?;
+            Ok(None)
+        }
+        Some(number) => Ok(Some(number)),
+    }
+}
+
+fn number(f: Option<&Signature>) -> Option<usize>
+    ensures { result ≡ number_in (option_copied f.entry) }
+{
+    match f {
+        None => None,
+        Some(f) => f.number,
+    }
+}
+
+// The functions and the one that starts it make a program.
+fn whole(functions: Option<Items<Function>>, main: Option<usize>) -> Option<Program>
+    ensures { result ≡ option_map (λ p. record { functions = p.0; main = p.1 }) (nodes.both functions main) }
+{
+    match both(functions, main) {
+        None => None,
+        Some((functions, main)) => Some(Program { functions, main }),
+    }
+}

@@ -1,0 +1,97 @@
+//! The functions that can be called.
+
+ghost use Rattle.std.specs.Prelude.{◌≡◌, ◌<◌, ◌^◌, if◌then◌else◌, Some, None, IfOk, OnOk};
+ghost use Rattle.std.specs.Str.{bytes_eq};
+ghost use Rattle.c_rules.specs.Scope.{Bytes};
+ghost use Rattle.c_rules.specs.Table.{called};
+ghost use Rattle.c_check.specs.Functions as functions;
+
+use crate::heading::{parameters_of, types_of};
+use c_rules::signature::Signature;
+use c_rules::types::type_of;
+use c_tree::tree::{Heading, Item};
+use indexmap::IndexMap;
+use std::alloc::{AllocError, Global};
+
+/// The functions of a program's items.
+pub fn table(alloc: Global, items: &[Item]) -> Result<IndexMap<Vec<u8>, Signature>, AllocError>
+    ensures { IfOk result (λ table. (name : Bytes) → called table.entries name ≡ functions.signatures 0 items.now name) }
+{
+    let mut table = IndexMap::new(alloc);
+    let mut number = 0;
+    for item in items {
+        add_item(alloc, &mut table, number, item)?;
+        number = next_number(number, item);
+    }
+    Ok(table)
+}
+
+/// How many definitions stand before the next item, where so many stand before this one.
+pub fn next_number(number: usize, item: &Item) -> usize
+    requires { number < 2 ^ 63 }
+    ensures { result ≡ functions.next_number number item.now }
+{
+    if is_definition(item) {
+        number + 1
+    } else {
+        number
+    }
+}
+
+// Adds what an item says.
+fn add_item(
+    alloc: Global,
+    table: &mut IndexMap<Vec<u8>, Signature>,
+    number: usize,
+    item: &Item,
+) -> Result<(), AllocError>
+    ensures { OnOk result ((name : Bytes) → called table.new.entries name ≡ functions.joined (called table.old.entries name) (functions.said_by number (functions.is_definition item.now) (functions.heading_in item.now) name)) }
+{
+    match item {
+        Item::Include { .. } | Item::Struct { .. } => Ok(()),
+        Item::Prototype(heading) => add_heading(alloc, table, number, false, heading),
+        Item::Function { heading, .. } => add_heading(alloc, table, number, true, heading),
+    }
+}
+
+fn add_heading(
+    alloc: Global,
+    table: &mut IndexMap<Vec<u8>, Signature>,
+    number: usize,
+    defined: bool,
+    heading: &Heading,
+) -> Result<(), AllocError>
+    ensures { OnOk result ((name : Bytes) → called table.new.entries name ≡ functions.joined (called table.old.entries name) (functions.said_by number defined (Some heading.now) name)) }
+{
+    let name = Vec::from_slice(alloc, heading.name.bytes.as_slice())?;
+    let parameters = parameters_of(heading.parameters.as_slice());
+    let signature = Signature {
+        result: type_of(&heading.specifier),
+        parameters: types_of(alloc, parameters)?,
+        number: defined.then_some(number),
+    };
+    join(table, name, signature)
+}
+
+// The first header of a name gives the types, and the first definition the number.
+fn join(
+    table: &mut IndexMap<Vec<u8>, Signature>,
+    name: Vec<u8>,
+    later: Signature,
+) -> Result<(), AllocError>
+    ensures { OnOk result ((other : Bytes) → called table.new.entries other ≡ functions.joined (called table.old.entries other) (if bytes_eq name.items other then Some later else None)) }
+{
+    let number = later.number;
+    let f = table.entry(name)?.or_insert(later);
+    f.number = f.number.or(number);
+    Ok(())
+}
+
+fn is_definition(item: &Item) -> bool
+    ensures { result ≡ functions.is_definition item.now }
+{
+    match item {
+        Item::Include { .. } | Item::Struct { .. } | Item::Prototype(_) => false,
+        Item::Function { .. } => true,
+    }
+}

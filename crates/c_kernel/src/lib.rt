@@ -1,0 +1,7 @@
+//! The typed program: its types, and functions in which each name is resolved and each conversion stands.
+#![tactic(auto)]
+
+pub mod program;
+mod types;
+
+pub use types::{CType, IntegerType, cells, size};

@@ -1,0 +1,222 @@
+//! A program in which names are resolved and conversions stand.
+//!
+//! A place is an expression too: its value is a pointer to what stands there.
+
+mod copy;
+#[cfg(test)]
+mod tests;
+
+use crate::types::{CType, IntegerType};
+use sqlite_items::{Boxed, Items};
+
+/// A program. It starts in the function with the number `main`.
+#[derive(Debug, Drop)]
+pub struct Program {
+    /// In the text's order. A call names a function by its place here.
+    pub functions: Items<Function>,
+    pub main: usize,
+}
+
+/// A function (C99 6.9.1).
+#[derive(Debug, Drop)]
+pub struct Function {
+    pub name: Items<u8>,
+    pub result: CType,
+    /// How many of the variables are parameters.
+    pub parameters: usize,
+    /// The types of all its variables: the parameters, then those that its body declares, in the text's order.
+    pub variables: Items<CType>,
+    pub body: Items<Stmt>,
+}
+
+/// A statement (C99 6.8). A branch or a loop's body is a list of one statement.
+#[derive(Debug, Drop)]
+pub enum Stmt {
+    /// An expression statement, a declaration or an empty statement: what it does, in order.
+    Actions(Items<Action>),
+    Block(Items<Stmt>),
+    /// An `if` with its `else if`s. Without an `else`, `otherwise` is empty.
+    If {
+        arms: Items<Arm<Stmt>>,
+        otherwise: Items<Stmt>,
+    },
+    While {
+        test: Expr,
+        body: Items<Stmt>,
+    },
+    DoWhile {
+        body: Items<Stmt>,
+        test: Expr,
+    },
+    /// Without a test it is left by `break` and `return` alone.
+    For {
+        start: Items<Action>,
+        test: Option<Expr>,
+        step: Items<Action>,
+        body: Items<Stmt>,
+    },
+    Break,
+    Continue,
+    Return(Option<Expr>),
+    /// `printf`.
+    Print {
+        format: Items<Piece>,
+        arguments: Items<Expr>,
+    },
+    /// A place where a checkpoint may be taken.
+    Mark,
+}
+
+/// A branch that is taken where its test isn't 0 and no earlier one's is.
+#[derive(Debug, Drop)]
+pub struct Arm<S> {
+    pub test: Expr,
+    pub body: Items<S>,
+}
+
+/// What is done at once: by a statement, by a declaration for one of its variables, or in the head of a `for`.
+#[derive(Debug, Drop)]
+pub enum Action {
+    /// The variable with this number gets zeros.
+    Zero(usize),
+    Set {
+        place: Place,
+        value: Expr,
+    },
+    Call {
+        into: Option<Target>,
+        function: usize,
+        arguments: Items<Expr>,
+    },
+}
+
+/// Where the result of a call goes, converted to the type.
+#[derive(Debug, Drop)]
+pub struct Target {
+    pub place: Place,
+    pub kind: IntegerType,
+}
+
+/// A piece of a format, which gives a byte or prints the next argument (C99 7.19.6.1).
+#[derive(Clone, Copy, PartialEq, Eq, Debug)]
+pub enum Piece {
+    /// `%%` is the byte `%`.
+    Byte(u8),
+    /// `%d`, `%ld`: in decimal.
+    Decimal,
+    LongDecimal,
+    /// `%c`: the low byte.
+    Character,
+}
+
+/// An expression whose value is a pointer to the place.
+pub type Place = Expr;
+
+/// An expression (C99 6.5).
+#[derive(Debug, Drop)]
+pub enum Expr {
+    Number {
+        value: u64,
+        kind: IntegerType,
+    },
+    /// The place of the variable with this number.
+    Variable(usize),
+    /// The number that stands at a place, read as one of the type.
+    Load {
+        place: Boxed<Expr>,
+        kind: IntegerType,
+    },
+    /// A conversion (C99 6.3.1), which changes the type.
+    Convert {
+        kind: IntegerType,
+        operand: Boxed<Expr>,
+    },
+    /// `!`.
+    Not(Boxed<Expr>),
+    /// An operator on a number of the type, which its result has too.
+    Unary {
+        operator: UnaryOperator,
+        kind: IntegerType,
+        operand: Boxed<Expr>,
+    },
+    /// Operators with their operands, grouped from the left. There is at least one link.
+    Chain {
+        first: Boxed<Expr>,
+        rest: Items<Link<Expr>>,
+    },
+    /// `test ? then : otherwise`, of two values of one type.
+    Choice {
+        test: Boxed<Expr>,
+        then: Boxed<Expr>,
+        otherwise: Boxed<Expr>,
+    },
+}
+
+/// An operator with its right operand.
+#[derive(Debug, Drop)]
+pub struct Link<E> {
+    /// What the left operand is converted to first, where that changes its type.
+    pub conversion: Option<IntegerType>,
+    pub operator: BinaryOperator,
+    pub operand: E,
+}
+
+/// An operator of C99 6.5.3.3, but for `!`.
+#[derive(Clone, Copy, PartialEq, Eq, Debug)]
+pub enum UnaryOperator {
+    Plus,
+    Minus,
+    Complement,
+}
+
+/// An operator of two operands, with the type at which it computes.
+#[derive(Clone, Copy, PartialEq, Eq, Debug)]
+pub enum BinaryOperator {
+    /// Of two numbers of the type, which the result has too.
+    Arithmetic {
+        operator: Arithmetic,
+        kind: IntegerType,
+    },
+    /// Of a number of the type, which the result has too, and a count (C99 6.5.7).
+    Shift {
+        direction: Direction,
+        kind: IntegerType,
+    },
+    /// Of two numbers of one type; the result is an int (C99 6.5.8, 6.5.9).
+    Comparison(Comparison),
+    /// `&&`.
+    And,
+    /// `||`.
+    Or,
+}
+
+/// An operator of C99 6.5.5, 6.5.6 and 6.5.10 to 6.5.12.
+#[derive(Clone, Copy, PartialEq, Eq, Debug)]
+pub enum Arithmetic {
+    Multiply,
+    Divide,
+    Remainder,
+    Add,
+    Subtract,
+    And,
+    ExclusiveOr,
+    InclusiveOr,
+}
+
+/// The way that a shift goes.
+#[derive(Clone, Copy, PartialEq, Eq, Debug)]
+pub enum Direction {
+    Left,
+    Right,
+}
+
+/// A relational or equality operator.
+#[derive(Clone, Copy, PartialEq, Eq, Debug)]
+pub enum Comparison {
+    Less,
+    Greater,
+    LessEqual,
+    GreaterEqual,
+    Equal,
+    NotEqual,
+}

@@ -1,0 +1,74 @@
+-- The rules that are broken at a node and its parts, and its typed form where none is.
+use Rattle.std.specs.Prelude.{ℕ, Bool, true, false, List, [], ◌∷◌, ◌++◌, Option, Some, None, if◌then◌else◌}
+use Rattle.c_tree.specs.declared.kind.Kind.{Kind}
+use Rattle.c_rules.specs.declared.fault.Fault.{Fault}
+
+pub record Judged (A : Type 0) : Type 0 where
+  pub faults : List Fault
+  pub found : Option A
+
+-- one rule is one test
+abbrev pub breaks : Bool → Kind → ℕ → List Fault
+breaks b kind at = if b then record { kind = kind; at = at } ∷ [] else []
+
+abbrev pub sound : {A : Type 0} → List Fault → A → Option A
+sound [] x = Some x
+sound (f ∷ fs) x = None
+
+-- a node, by its own rules and what it is where it breaks none of them
+abbrev pub by : {A : Type 0} → List Fault → A → Judged A
+by faults x = record { faults = faults; found = sound faults x }
+
+-- nothing is said of a node in which a part breaks a rule
+abbrev pub silent : {A : Type 0} → Judged A
+silent = record { faults = []; found = None }
+
+-- a node that breaks a rule
+abbrev pub refused : {A : Type 0} → Kind → ℕ → Judged A
+refused kind at = record { faults = breaks true kind at; found = None }
+
+abbrev pub given : {A B : Type 0} → Option A → (A → Judged B) → Judged B
+given None node = silent
+given (Some a) node = node a
+
+abbrev pub both : {A B : Type 0} → Option A → Option B → Option (A × B)
+both (Some a) (Some b) = Some (a, b)
+both _ _ = None
+
+abbrev pub after : {A : Type 0} → List Fault → Judged A → Judged A
+after faults j = record { faults = faults ++ j.faults; found = j.found }
+
+-- a node with one part, and with two
+abbrev pub of_part : {A B : Type 0} → Judged A → (A → Judged B) → Judged B
+of_part a node = after a.faults (given a.found node)
+
+abbrev pub of_parts : {A B C : Type 0} → Judged A → Judged B → (A → B → Judged C) → Judged C
+of_parts a b node = after (a.faults ++ b.faults) (given (both a.found b.found) (λ p. node p.0 p.1))
+
+-- a part as it is, and seen in another way
+abbrev pub as_part : {A B : Type 0} → (A → B) → Judged A → Judged B
+as_part f a = of_part a (λ x. by [] (f x))
+
+-- two parts as they are
+abbrev pub pair_of : {A B : Type 0} → Judged A → Judged B → Judged (A × B)
+pair_of a b = record { faults = a.faults ++ b.faults; found = both a.found b.found }
+
+-- one and more, where all are sound
+abbrev pub more : {A : Type 0} → Option A → Option (List A) → Option (List A)
+more (Some x) (Some xs) = Some (x ∷ xs)
+more _ _ = None
+
+-- several parts, in order
+abbrev pub together : {A : Type 0} → List (Judged A) → Judged (List A)
+together [] = by [] []
+together (j ∷ js) = record { faults = j.faults ++ (together js).faults; found = more j.found (together js).found }
+
+-- what may be left out
+abbrev pub perhaps : {A B : Type 0} → (A → Judged B) → Option A → Judged (Option B)
+perhaps judge None = by [] None
+perhaps judge (Some x) = as_part Some (judge x)
+
+-- all so far and one, where all are sound
+abbrev pub gathered : {A : Type 0} → Option (List A) → Option A → Option (List A)
+gathered (Some xs) (Some x) = Some (xs ++ x ∷ [])
+gathered _ _ = None

@@ -1,0 +1,6 @@
+pub mod Judged
+pub mod Types
+pub mod Scope
+pub mod Table
+pub mod Rules
+pub mod Format

@@ -1,0 +1,24 @@
+//! Broken rules.
+
+ghost use Rattle.std.specs.Prelude.{◌≡◌, ◌++◌, OnOk};
+ghost use Rattle.c_rules.specs.Judged.{breaks};
+
+use c_tree::Kind;
+use std::alloc::AllocError;
+
+/// A broken rule, and the place that breaks it.
+#[derive(Clone, Copy, PartialEq, Eq, Debug)]
+pub struct Fault {
+    pub kind: Kind,
+    pub at: u32,
+}
+
+/// Notes that a rule is broken at a place, where it is.
+pub fn rule(faults: &mut Vec<Fault>, broken: bool, kind: Kind, at: u32) -> Result<(), AllocError>
+    ensures { OnOk result (faults.new.items ≡ faults.old.items ++ breaks broken kind at) }
+{
+    if broken {
+        faults.push(Fault { kind, at })?;
+    }
+    Ok(())
+}

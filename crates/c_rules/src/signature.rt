@@ -1,0 +1,27 @@
+//! Functions as they are called.
+
+ghost use Rattle.std.specs.Prelude.{◌≡◌};
+ghost use Rattle.std.specs.Option.{option_copied};
+ghost use Rattle.c_rules.specs.Table.{called};
+
+use c_kernel::CType;
+use indexmap::IndexMap;
+use sqlite_items::Items;
+
+/// The types of a function's first header, and the number of its definition.
+#[derive(Debug, Drop)]
+pub struct Signature {
+    pub result: CType,
+    pub parameters: Items<CType>,
+    pub number: Option<usize>,
+}
+
+/// The function of a name in a table.
+pub fn function<'f>(
+    functions: &'f IndexMap<Vec<u8>, Signature>,
+    name: &[u8],
+) -> Option<&'f Signature>
+    ensures { option_copied result ≡ called functions.now.entries name.now }
+{
+    functions.get(name)
+}
