@@ -1,21 +1,20 @@
 -- What is answered to the words and the input, and what is written with it.
-use Rattle.std.specs.Prelude.{◌≡◌, ◌⊎◌, ℕ, ◌<◌, ◌≤◌, List, [], length, take, Option, codes}
+use Rattle.std.specs.Prelude.{◌≡◌, ◌⊎◌, ℕ, zero, suc, true, false, ◌<◌, ◌≤◌, List, [], ◌++◌, length, take, Option, codes}
+use Rattle.std.specs.List.{range_with_len}
 use Rattle.std.specs.Io.KnownBytes.{Appends}
 use Rattle.c_tree.specs.declared.kind.Kind.{Kind}
-use Rattle.c_tree.specs.declared.kind.Kind.TheVariants.{NotYet}
 use Rattle.c_kernel.specs.declared.program.Program.{Program}
-use Rattle.c_parse.specs.declared.straight.tree.Program.{Program as Straight}
 use Rattle.c3_io.specs.Streams.{AreAll, HasMoreThan}
-use Rattle.c_parse.specs.Grammar as straight
-use Rattle.c_parse.specs.Grammar.{HasNoTree}
+use Rattle.plain_job.specs.Job.{Job, IsReached, start_job}
+use Rattle.plain_job.specs.Turn.{AreTurns}
 use Rattle.c3_top.specs.declared.command.Command.{Command}
 use Rattle.c3_top.specs.declared.command.Command.TheVariants.{Plain, Check}
 use Rattle.c3_top.specs.declared.status.Status.{Status}
-use Rattle.c3_top.specs.declared.status.Status.TheVariants.{Done, Usage, Refused, InputLimit, ReadFault, WriteFault, NoMemory}
+use Rattle.c3_top.specs.declared.status.Status.TheVariants.{Done, Unfinished, Usage, Refused, InputLimit, ReadFault, WriteFault, NoMemory}
 use Rattle.c3_top.specs.Command.{IsCommand, IsNoCommand}
 use Rattle.c3_top.specs.Text.{IsProgram, IsNoProgram}
 use Rattle.c3_top.specs.Refusal.{refusal}
-use Rattle.c3_top.specs.Run.{run_text}
+use Rattle.c3_top.specs.Run.{all_ended, finished_from, unfinished_from}
 
 -- the greatest length of the input
 abbrev pub input_limit : ℕ
@@ -25,25 +24,17 @@ input_limit = 1048576
 abbrev pub OfInput : Option (List ℕ) → (List ℕ → Type 0) → Type 0
 OfInput input Holds = (bytes : List ℕ) × AreAll input bytes × Holds bytes
 
--- the text is what the program in these bytes writes on so many ranks
-abbrev pub IsRunOf : ℕ → List ℕ → List ℕ → Type 0
-IsRunOf ranks text bytes = (p : Straight) × straight.HasTree bytes p × (text ≡ run_text ranks p)
+-- rounds of turns: in each the ranks have one turn, in order
+abbrev pub rounds : ℕ → ℕ → List ℕ
+rounds ranks zero = []
+rounds ranks (suc n) = range_with_len 0 ranks ++ rounds ranks n
 
-abbrev pub IsRefusal : Status → List ℕ → Type 0
-IsRefusal status text = (status ≡ Refused NotYet 0) × (text ≡ codes "refused NotYet at 0\n")
-
--- the answer to a program text
-abbrev pub IsAnswerTo : List ℕ → ℕ → Status → List ℕ → Type 0
-IsAnswerTo bytes ranks Done text = IsRunOf ranks text bytes
-IsAnswerTo bytes ranks (Refused kind at) text = HasNoTree bytes × IsRefusal (Refused kind at) text
-IsAnswerTo bytes ranks _ text = ⊥
-
--- the answer to `plain N`, from a source that has failed in this call or not
-abbrev pub IsPlainAnswer : Option (List ℕ) → Type 0 → ℕ → Status → List ℕ → Type 0
-IsPlainAnswer input failed ranks Done text = OfInput input (IsRunOf ranks text)
-IsPlainAnswer input failed ranks (Refused kind at) text = OfInput input HasNoTree × IsRefusal (Refused kind at) text
-IsPlainAnswer input failed ranks ReadFault text = failed × (text ≡ codes "read fault\n")
-IsPlainAnswer input failed ranks _ text = ⊥
+-- A failure-free run of the program in these bytes on so many ranks leads to the job, by 3,076 rounds of turns.
+pub record IsRun (ranks : ℕ) (job : Job) (bytes : List ℕ) : Type 0 where
+  pub program : Program
+  pub is : IsProgram bytes program
+  pub reached : IsReached program ranks job
+  pub turns : AreTurns program.functions (start_job program ranks) (rounds ranks 3076) job
 
 abbrev pub IsAccepted : List ℕ → Type 0
 IsAccepted text = (p : Program) × IsProgram text p
@@ -52,44 +43,38 @@ IsAccepted text = (p : Program) × IsProgram text p
 abbrev pub IsRefused : Kind → ℕ → List ℕ → Type 0
 IsRefused kind at bytes = (length bytes ≤ input_limit) × IsNoProgram bytes kind at
 
--- the answer to `check` on a whole input
-abbrev pub IsCheckOf : List ℕ → Status → List ℕ → Type 0
-IsCheckOf bytes Done text = IsAccepted bytes × (text ≡ codes "accepted\n")
-IsCheckOf bytes (Refused kind at) text = IsRefused kind at bytes × (text ≡ refusal kind at)
-IsCheckOf bytes _ text = ⊥
-
--- the answer to `check`
-abbrev pub IsCheckAnswer : Option (List ℕ) → Type 0 → Status → List ℕ → Type 0
-IsCheckAnswer input failed Done text = OfInput input IsAccepted × (text ≡ codes "accepted\n")
-IsCheckAnswer input failed (Refused kind at) text = OfInput input (IsRefused kind at) × (text ≡ refusal kind at)
-IsCheckAnswer input failed InputLimit text = HasMoreThan input_limit input × (text ≡ codes "input too long\n")
-IsCheckAnswer input failed ReadFault text = failed × (text ≡ codes "read fault\n")
-IsCheckAnswer input failed _ text = ⊥
+-- the answer to a command on a whole input within the limit
+abbrev pub IsResult : Status → Command → List ℕ → List ℕ → Type 0
+IsResult Done (Plain ranks) text bytes = (job : Job) × IsRun ranks job bytes × (all_ended job ≡ true) × (text ≡ finished_from 0 job)
+IsResult Done Check text bytes = IsAccepted bytes × (text ≡ codes "accepted\n")
+IsResult Unfinished (Plain ranks) text bytes = (job : Job) × IsRun ranks job bytes × (all_ended job ≡ false) × (text ≡ unfinished_from 0 job)
+IsResult Unfinished Check text bytes = ⊥
+IsResult (Refused kind at) c text bytes = IsRefused kind at bytes × (text ≡ refusal kind at)
+IsResult _ c text bytes = ⊥
 
 -- the answer to a command, from a source that has failed in this call or not
-abbrev pub IsAnswer : Command → Option (List ℕ) → Type 0 → Status → List ℕ → Type 0
-IsAnswer (Plain ranks) input failed = IsPlainAnswer input failed ranks
-IsAnswer Check input failed = IsCheckAnswer input failed
+abbrev pub IsAnswer : Status → Command → Option (List ℕ) → Type 0 → List ℕ → Type 0
+IsAnswer Done c input failed text = OfInput input (IsResult Done c text)
+IsAnswer Unfinished c input failed text = OfInput input (IsResult Unfinished c text)
+IsAnswer (Refused kind at) c input failed text = OfInput input (IsResult (Refused kind at) c text)
+IsAnswer InputLimit c input failed text = HasMoreThan input_limit input × (text ≡ codes "input too long\n")
+IsAnswer ReadFault c input failed text = failed × (text ≡ codes "read fault\n")
+IsAnswer _ c input failed text = ⊥
 
 -- The answer and its text are due for these words, this input and a source that has failed in this call or not.
 abbrev pub IsDue : List (List ℕ) → Option (List ℕ) → Type 0 → Status → List ℕ → Type 0
 IsDue words input failed Usage text = IsNoCommand words × (text ≡ codes "usage\n")
-IsDue words input failed status text = (c : Command) × IsCommand words c × IsAnswer c input failed status text
+IsDue words input failed status text = (c : Command) × IsCommand words c × IsAnswer status c input failed text
 
--- the program runs, or is accepted
-abbrev pub IsGood : Command → List ℕ → Type 0
-IsGood (Plain ranks) input = (p : Straight) × straight.HasTree input p
-IsGood Check input = IsAccepted input
+-- the run ends, or the text is accepted
+abbrev pub IsDone : Command → List ℕ → Type 0
+IsDone (Plain ranks) input = (job : Job) × IsRun ranks job input × (all_ended job ≡ true)
+IsDone Check input = IsAccepted input
 
--- it is refused
-abbrev pub IsRefusedFor : Command → List ℕ → Kind → ℕ → Type 0
-IsRefusedFor (Plain ranks) input kind at = HasNoTree input × (Refused kind at ≡ Refused NotYet 0)
-IsRefusedFor Check input kind at = IsRefused kind at input
-
--- the input is too long
-abbrev pub IsTooLong : Command → List ℕ → Type 0
-IsTooLong (Plain ranks) input = ⊥
-IsTooLong Check input = input_limit < length input
+-- some rank of the run hasn't ended
+abbrev pub IsLeft : Command → List ℕ → Type 0
+IsLeft (Plain ranks) input = (job : Job) × IsRun ranks job input × (all_ended job ≡ false)
+IsLeft Check input = ⊥
 
 -- The text that is due has gone out whole, or a front of it of so many bytes where a put has failed, or nothing for
 -- want of memory.
@@ -97,6 +82,7 @@ abbrev pub Writes : (Status → List ℕ → Type 0) → Option (List ℕ) → O
 Writes due old new (WriteFault out) = (status : Status) × (text : List ℕ) × due status text × (out < length text) × Appends old new (take out text)
 Writes due old new NoMemory = Appends old new []
 Writes due old new Done = (text : List ℕ) × due Done text × Appends old new text
+Writes due old new Unfinished = (text : List ℕ) × due Unfinished text × Appends old new text
 Writes due old new Usage = (text : List ℕ) × due Usage text × Appends old new text
 Writes due old new (Refused kind at) = (text : List ℕ) × due (Refused kind at) text × Appends old new text
 Writes due old new InputLimit = (text : List ℕ) × due InputLimit text × Appends old new text
@@ -109,6 +95,7 @@ IsWriteFault _ = ⊥
 -- want of memory, or a fault of the source or the sink
 abbrev pub IsFault : Status → Type 0
 IsFault Done = ⊥
+IsFault Unfinished = ⊥
 IsFault Usage = ⊥
 IsFault (Refused kind at) = ⊥
 IsFault InputLimit = ⊥

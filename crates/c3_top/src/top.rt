@@ -1,16 +1,19 @@
-ghost use Rattle.std.specs.Prelude.{◌≡◌, ◌≤◌, ℕ, IfOk, IfSome, length, map, string_bytes};
+ghost use Rattle.std.specs.Prelude.{◌≡◌, ◌≤◌, ◌<◌, ℕ, List, IfOk, IfSome, length, map, string_bytes};
 ghost use Rattle.c_tree.specs.declared.kind.Kind.{Kind as Cause};
 ghost use Rattle.c3_io.specs.Faults.{Rose};
 ghost use Rattle.c3_top.specs.Command.{IsCommand, IsNoCommand};
 ghost use Rattle.c3_top.specs.declared.command.Command.{Command as Asked};
-ghost use Rattle.c3_top.specs.Answer.{IsAnswerTo, IsCheckOf, IsAnswer, IsPlainAnswer, IsCheckAnswer, IsDue, IsGood, IsRefusal, IsRefusedFor, IsTooLong, IsWriteFault, Writes, Exactly, input_limit};
+ghost use Rattle.c3_top.specs.declared.command.Command.TheVariants.{Plain};
+ghost use Rattle.c3_top.specs.Text.{IsProgram};
+ghost use Rattle.c3_top.specs.Refusal as refusals;
+ghost use Rattle.c3_top.specs.Answer.{IsAnswer, IsDone, IsDue, IsLeft, IsRefused, IsResult, IsWriteFault, Writes, Exactly, input_limit};
 
 use crate::Status;
 use crate::command::{Command, asked};
 use crate::program::{NoProgram, program};
 use crate::refusal::refusal;
-use crate::run::run_text;
-use c_parse::straight::{ParseFault, TEXT_LIMIT, parse};
+use crate::run::{all_ended, finished, run, unfinished};
+use c_kernel::program::Program;
 use c_tree::Kind;
 use c3_base::NoMemory;
 use c3_io::{ReadAllFault, Sink, Source, read_all, write_all_to};
@@ -33,79 +36,58 @@ fn notice(alloc: Global, status: Status, text: &[u8]) -> Result<Answer, NoMemory
     Ok(Answer { status, text })
 }
 
-fn not_yet(alloc: Global) -> Result<Answer, NoMemory>
-    ensures { IfOk result (λ answer. IsRefusal answer.status answer.text.items) }
+/// The answer where a text is no program.
+fn refused(alloc: Global, kind: Kind, at: u32) -> Result<Answer, NoMemory>
+    ensures { IfOk result (λ answer. (answer.status ≡ Status.Refused kind at) × (answer.text.items ≡ refusals.refusal kind at)) }
 {
-    let status = Status::Refused {
-        kind: Kind::NotYet,
-        at: 0,
-    };
-    notice(alloc, status, b"refused NotYet at 0\n")
+    Ok(Answer {
+        status: Status::Refused { kind, at },
+        text: refusal(alloc, kind, at)?,
+    })
 }
 
-/// The answer to a program text.
-fn run(alloc: Global, ranks: u16, input: &[u8]) -> Result<Answer, NoMemory>
-    ensures { IfOk result (λ answer. IsAnswerTo input.now ranks answer.status answer.text.items) }
+/// The answer to `plain N` for a program.
+fn ran(alloc: Global, ranks: u16, program: Program) -> Result<Answer, NoMemory>
+    ensures { IfOk result (λ answer. (bytes : List ℕ) → IsProgram bytes program → IsResult answer.status (Plain ranks) answer.text.items bytes) }
 {
-    match parse(alloc, input) {
-        Ok(program) => Ok(Answer {
+    let job = run(alloc, ranks, program)?;
+    if all_ended(&job, ranks) {
+        return Ok(Answer {
             status: Status::Done,
-            text: run_text(alloc, ranks, &program)?,
-        }),
-        Err(ParseFault::NotYet) => not_yet(alloc),
-        Err(ParseFault::NoMemory) => Err(NoMemory),
+            text: finished(alloc, &job, ranks)?,
+        });
     }
+    Ok(Answer {
+        status: Status::Unfinished,
+        text: unfinished(alloc, &job, ranks)?,
+    })
 }
 
-/// The answer to `plain N`.
-fn plain<S: Source>(alloc: Global, ranks: u16, source: &mut S) -> Result<Answer, NoMemory>
-    ensures later { S.faults source.old ≤ S.faults source.new }
-    ensures answer { IfOk result (λ answer. IsPlainAnswer (S.left source.old) (Rose (S.faults source.old) (S.faults source.new)) ranks answer.status answer.text.items) }
-{
-    match read_all(alloc, source, TEXT_LIMIT) {
-        Ok(input) => run(alloc, ranks, &input),
-        Err(ReadAllFault::TooLong) => not_yet(alloc),
-        Err(ReadAllFault::ReadFault) => notice(alloc, Status::ReadFault, b"read fault\n"),
-        Err(ReadAllFault::NoMemory) => Err(NoMemory),
-    }
-}
-
-/// The answer to `check` on the whole input.
-fn accepted(alloc: Global, input: &[u8]) -> Result<Answer, NoMemory>
+/// The answer to a command on a whole input.
+fn result_of(alloc: Global, command: Command, input: &[u8]) -> Result<Answer, NoMemory>
     requires { length input.now ≤ input_limit }
-    ensures { IfOk result (λ answer. IsCheckOf input.now answer.status answer.text.items) }
+    ensures { IfOk result (λ answer. IsResult answer.status command answer.text.items input.now) }
 {
     match program(alloc, input) {
-        Ok(_) => notice(alloc, Status::Done, b"accepted\n"),
-        Err(NoProgram::Refused { kind, at }) => Ok(Answer {
-            status: Status::Refused { kind, at },
-            text: refusal(alloc, kind, at)?,
-        }),
+        Ok(program) => match command {
+            Command::Plain { ranks } => ran(alloc, ranks, program),
+            Command::Check => notice(alloc, Status::Done, b"accepted\n"),
+        },
+        Err(NoProgram::Refused { kind, at }) => refused(alloc, kind, at),
         Err(NoProgram::NoMemory) => Err(NoMemory),
-    }
-}
-
-/// The answer to `check`.
-fn check<S: Source>(alloc: Global, source: &mut S) -> Result<Answer, NoMemory>
-    ensures later { S.faults source.old ≤ S.faults source.new }
-    ensures answer { IfOk result (λ answer. IsCheckAnswer (S.left source.old) (Rose (S.faults source.old) (S.faults source.new)) answer.status answer.text.items) }
-{
-    match read_all(alloc, source, INPUT_LIMIT) {
-        Ok(input) => accepted(alloc, &input),
-        Err(ReadAllFault::TooLong) => notice(alloc, Status::InputLimit, b"input too long\n"),
-        Err(ReadAllFault::ReadFault) => notice(alloc, Status::ReadFault, b"read fault\n"),
-        Err(ReadAllFault::NoMemory) => Err(NoMemory),
     }
 }
 
 /// The answer to a command.
 fn answer_to<S: Source>(alloc: Global, command: Command, source: &mut S) -> Result<Answer, NoMemory>
     ensures later { S.faults source.old ≤ S.faults source.new }
-    ensures answer { IfOk result (λ answer. IsAnswer command (S.left source.old) (Rose (S.faults source.old) (S.faults source.new)) answer.status answer.text.items) }
+    ensures answer { IfOk result (λ answer. IsAnswer answer.status command (S.left source.old) (Rose (S.faults source.old) (S.faults source.new)) answer.text.items) }
 {
-    match command {
-        Command::Plain { ranks } => plain(alloc, ranks, source),
-        Command::Check => check(alloc, source),
+    match read_all(alloc, source, INPUT_LIMIT) {
+        Ok(input) => result_of(alloc, command, &input),
+        Err(ReadAllFault::TooLong) => notice(alloc, Status::InputLimit, b"input too long\n"),
+        Err(ReadAllFault::ReadFault) => notice(alloc, Status::ReadFault, b"read fault\n"),
+        Err(ReadAllFault::NoMemory) => Err(NoMemory),
     }
 }
 
@@ -140,11 +122,13 @@ pub fn c3_top<S: Source, K: Sink>(
     // Each answer comes exactly where it should, but for a fault in its place.
     ensures usage { Exactly (IsNoCommand (map string_bytes words.now)) Status.Usage result }
     ensures refused { (kind : Cause) (at : ℕ) → IfSome (S.left source.old) (λ input.
-        Exactly ((c : Asked) × IsCommand (map string_bytes words.now) c × IsRefusedFor c input kind at) (Status.Refused kind at) result) }
+        Exactly ((c : Asked) × IsCommand (map string_bytes words.now) c × IsRefused kind at input) (Status.Refused kind at) result) }
     ensures done { IfSome (S.left source.old) (λ input.
-        Exactly ((c : Asked) × IsCommand (map string_bytes words.now) c × IsGood c input) Status.Done result) }
+        Exactly ((c : Asked) × IsCommand (map string_bytes words.now) c × IsDone c input) Status.Done result) }
+    ensures unfinished { IfSome (S.left source.old) (λ input.
+        Exactly ((c : Asked) × IsCommand (map string_bytes words.now) c × IsLeft c input) Status.Unfinished result) }
     ensures input_limit { IfSome (S.left source.old) (λ input.
-        Exactly ((c : Asked) × IsCommand (map string_bytes words.now) c × IsTooLong c input) Status.InputLimit result) }
+        Exactly ((c : Asked) × IsCommand (map string_bytes words.now) c × (input_limit < length input)) Status.InputLimit result) }
 
     // A fault of reading or writing has its cause in this call, and no count falls.
     ensures read_fault { result ≡ Status.ReadFault → Rose (S.faults source.old) (S.faults source.new) }

@@ -1,23 +1,17 @@
 //! Texts and what `check` answers, worked out by hand from the rules.
 
-use super::words_of;
-use crate::{Status, c3_top};
+use super::answered;
+use crate::Status;
 use c_tree::Kind;
-use c3_io::{MemSink, MemSource};
 use std::alloc::Global;
 use std::process::Abort;
 use std::test::Fail;
 
 /// What is answered to `check` on a text of two parts, with what is written.
 fn checked(alloc: Global, front: &str, rest: &str) -> Result<(Status, Vec<u8>), Fail> {
-    let words = words_of(alloc, "check")?;
     let mut text = Vec::from_slice(alloc, front.as_bytes())?;
     text.extend_from_slice(rest.as_bytes())?;
-    let mut source = MemSource::new(text, Vec::new(alloc));
-    let mut sink = MemSink::new(alloc, Vec::new(alloc));
-    let status = c3_top(alloc, &words, &mut source, &mut sink);
-    let written = Vec::from_slice(alloc, sink.bytes())?;
-    Ok((status, written))
+    answered(alloc, "check", &text)
 }
 
 /// Each text is refused for the kind, at the first byte of its second part.

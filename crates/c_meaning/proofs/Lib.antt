@@ -1,0 +1,13 @@
+pub mod Places
+pub mod Finds
+pub mod Enters
+pub mod Numbers
+pub mod Nodes
+pub mod Values
+mod Examples
+pub mod ValueExamples
+mod StepExamples
+pub mod Follows
+pub mod Same
+pub mod Begins
+pub mod Exits

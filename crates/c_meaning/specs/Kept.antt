@@ -1,0 +1,12 @@
+-- What holds of a memory's fields.
+use Rattle.std.specs.Prelude.{◌≡◌, ◌+◌, ◌≤◌, ◌<◌, ◌^◌}
+use Rattle.c_meaning.specs.Memory.{cells_in}
+use Rattle.c_meaning.specs.Order.{IsRising}
+use Rattle.c_meaning.specs.Seen.{objects_of, serial_of}
+use Rattle.c_meaning.specs.declared.memory.Memory.TheInside.{Inside}
+
+pub record IsKept (m : Inside) : Type 0 where
+  pub variables : IsRising serial_of 1 m.variables.items m.next
+  pub next : m.next < 2 ^ 64
+  pub taken : m.taken ≡ cells_in (objects_of m.variables.items)
+  pub stack : m.calls + m.taken ≤ 8192

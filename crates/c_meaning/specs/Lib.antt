@@ -1,0 +1,11 @@
+pub mod Memory
+pub mod Order
+pub mod Seen
+pub mod Kept
+pub mod Value
+pub mod State
+pub mod Text
+pub mod Step
+pub mod Level
+pub mod Running
+pub mod Rank

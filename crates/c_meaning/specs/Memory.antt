@@ -1,0 +1,115 @@
+-- Memory: objects, each a list of cells, found by their serials. There are no addresses.
+use Rattle.std.specs.Prelude.{ℕ, ◌+◌, ◌-◌, ℤ, pos, negsuc, nat_eq, nat_lt, if◌then◌else◌, List, [], ◌∷◌, ◌++◌, length, take, replicate, Option, Some, None, Result, Ok, Err, slice_get, slice_set}
+use Rattle.c3_base.specs.declared.cell.Cell.{Cell}
+
+-- a number has serial 0, NULL is (0, 0), and a pointer has its object's serial, and its place as the word
+abbrev pub number : ℤ → Cell
+number n = record { word = n; serial = 0 }
+
+abbrev pub null : Cell
+null = record { word = pos 0; serial = 0 }
+
+abbrev pub pointer : ℕ → ℤ → Cell
+pointer serial place = record { word = place; serial = serial }
+
+pub record Object : Type 0 where
+  pub serial : ℕ
+  pub cells : List Cell
+
+-- the variables of the calls that are under way, the oldest first; the next serial; how many calls are under way
+pub record Memory : Type 0 where
+  pub variables : List Object
+  pub next : ℕ
+  pub calls : ℕ
+
+abbrev pub empty : Memory
+empty = record { variables = []; next = 1; calls = 0 }
+
+-- the cells of the object with a serial
+abbrev pub find_object : List Object → ℕ → Option (List Cell)
+find_object [] serial = None
+find_object (o ∷ os) serial = if nat_eq o.serial serial then Some o.cells else find_object os serial
+
+abbrev pub cells_of : Memory → ℕ → Option (List Cell)
+cells_of m serial = find_object m.variables serial
+
+-- another value, and the same fault
+abbrev pub map_ok : {A B : Type 0} → (A → B) → Result A ℕ → Result B ℕ
+map_ok f (Err code) = Err code
+map_ok f (Ok v) = Ok (f v)
+
+-- ---- an access: 101 through NULL, then 103 where the object is dead, then 102 outside it
+
+abbrev pub or_outside : Option Cell → Result Cell ℕ
+or_outside None = Err 102
+or_outside (Some c) = Ok c
+
+abbrev pub cell_at : List Cell → ℤ → Result Cell ℕ
+cell_at cells (negsuc n) = Err 102
+cell_at cells (pos n) = or_outside (slice_get cells n)
+
+abbrev pub cell_in : Option (List Cell) → ℤ → Result Cell ℕ
+cell_in None place = Err 103
+cell_in (Some cells) place = cell_at cells place
+
+abbrev pub load : Memory → Cell → Result Cell ℕ
+load m p = if nat_eq p.serial 0 then Err 101 else cell_in (cells_of m p.serial) p.word
+
+-- a list with a cell put at a place
+abbrev pub with_cell : List Cell → ℤ → Cell → List Cell
+with_cell cells (negsuc n) c = cells
+with_cell cells (pos n) c = slice_set cells n c
+
+-- objects of which one has its cell put at a place
+abbrev pub put_cell : List Object → Cell → Cell → List Object
+put_cell [] p c = []
+put_cell (o ∷ os) p c = if nat_eq o.serial p.serial then record { serial = o.serial; cells = with_cell o.cells p.word c } ∷ os else o ∷ put_cell os p c
+
+abbrev pub put : Memory → Cell → Cell → Memory
+put m p c = record m { variables = put_cell m.variables p c }
+
+-- a store tests as a load does
+abbrev pub store : Memory → Cell → Cell → Result Memory ℕ
+store m p c = map_ok (λ old. put m p c) (load m p)
+
+-- an object's cells all become (0, 0)
+abbrev pub zero_object : List Object → ℕ → List Object
+zero_object [] serial = []
+zero_object (o ∷ os) serial = if nat_eq o.serial serial then record { serial = o.serial; cells = replicate (length o.cells) null } ∷ os else o ∷ zero_object os serial
+
+abbrev pub zeroed : Memory → ℕ → Memory
+zeroed m serial = record m { variables = zero_object m.variables serial }
+
+-- ---- calls
+
+-- a new object, of cells (0, 0)
+abbrev pub fresh : ℕ → ℕ → Object
+fresh serial n = record { serial = serial; cells = replicate n null }
+
+abbrev pub total : List ℕ → ℕ
+total [] = 0
+total (n ∷ ns) = n + total ns
+
+abbrev pub cells_in : List Object → ℕ
+cells_in [] = 0
+cells_in (o ∷ os) = length o.cells + cells_in os
+
+-- one more variable
+abbrev pub add_variable : Memory → ℕ → Memory
+add_variable m n = record m { variables = m.variables ++ fresh m.next n ∷ []; next = m.next + 1 }
+
+abbrev pub add_variables : Memory → List ℕ → Memory
+add_variables m [] = m
+add_variables m (n ∷ ns) = add_variables (add_variable m n) ns
+
+-- the cells of the stack in use: one for each call, and those of the variables
+abbrev pub used : Memory → ℕ
+used m = m.calls + cells_in m.variables
+
+-- a call begins, with variables of so many cells each: 108 where the stack's 8,192 cells would not hold its frame
+abbrev pub enter : Memory → List ℕ → Result Memory ℕ
+enter m lengths = if nat_lt 8192 (used m + 1 + total lengths) then Err 108 else Ok (add_variables (record m { calls = m.calls + 1 }) lengths)
+
+-- the newest call ends, which has so many variables: they die
+abbrev pub leave : Memory → ℕ → Memory
+leave m count = record m { variables = take (length m.variables - count) m.variables; calls = m.calls - 1 }

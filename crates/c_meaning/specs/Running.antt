@@ -1,0 +1,61 @@
+-- What a program that runs stands for.
+use Rattle.std.specs.Prelude.{ℕ, List, [], ◌∷◌, map, reverse}
+use Rattle.c_kernel.specs.declared.program.Function.{Function}
+use Rattle.c_kernel.specs.declared.program.Stmt.{Stmt}
+use Rattle.c_meaning.specs.declared.level.Level.{Level}
+use Rattle.c_meaning.specs.declared.level.Stage.{Stage}
+use Rattle.c_meaning.specs.declared.frame.Frame.{Frame}
+use Rattle.c_meaning.specs.declared.running.Running.{Running}
+use Rattle.c_meaning.specs.declared.running.Step.{Step}
+use Rattle.c_meaning.specs.declared.running.Step.TheVariants.{Local, Wants, Ended}
+use Rattle.c_meaning.specs.Level.{block_at, items_of, level_items}
+use Rattle.c_meaning.specs.State.{Item, State, Outcome, Goes, Asks, Ends}
+use Rattle.c_meaning.specs.State as state
+use Rattle.c_meaning.specs.Step.{body_of}
+
+-- what follows in a function
+abbrev pub todo_of : List Stmt → List Level → List Item
+todo_of body levels = items_of body levels []
+
+-- what follows in a call, and the block that its last level stands in
+abbrev pub todo : List Function → Frame → List Item
+todo functions frame = todo_of (body_of functions frame.function) frame.levels.items
+
+abbrev pub block_of : List Function → Frame → List Stmt
+block_of functions frame = block_at (body_of functions frame.function) frame.levels.items
+
+abbrev pub call_of : List Function → Frame → state.Call
+call_of functions frame = record { todo = todo functions frame; variables = frame.variables }
+
+-- the last is the newest, which comes first
+abbrev pub calls_of : List Function → List Frame → List state.Call
+calls_of functions frames = map (call_of functions) (reverse frames)
+
+abbrev pub below : List Function → Running → List state.Call
+below functions run = calls_of functions run.frames.items
+
+abbrev pub state_of : List Function → Running → State
+state_of functions run = record {
+  calls = calls_of functions run.frames.items;
+  memory = run.memory;
+  printed = run.requests.printed;
+  asked = run.requests.asked;
+}
+
+-- the state with one more call
+abbrev pub with_call : List Function → Running → state.Call → State
+with_call functions run call = record (state_of functions run) { calls = call ∷ below functions run }
+
+-- what the answer of a step says, with the state after it
+abbrev pub outcome_of : Step → State → Outcome
+outcome_of (Local began) s = Goes began s
+outcome_of (Wants op) s = Asks op s
+outcome_of (Ended end) s = Ends end
+
+-- a step in the newest call, which was taken from the others
+abbrev pub in_call : {A : Type 0} → (State → state.Call → List state.Call → A) → List Function → Running → Frame → A
+in_call go functions run frame = go (state_of functions run) (call_of functions frame) (below functions run)
+
+-- what follows in a call with one more level
+abbrev pub standing : List Function → Frame → ℕ → Stage → List Item
+standing functions frame next stage = level_items (block_of functions frame) next stage (todo functions frame)

@@ -1,0 +1,141 @@
+//! Calls and returns.
+
+ghost use Rattle.std.specs.Prelude.{◌≡◌, ◌∷◌, ◌+◌, ◌<◌, ◌^◌, IfOk, IfErr, List, length, map};
+ghost use Rattle.c_kernel.specs.Extent as extent;
+ghost use Rattle.c_kernel.specs.declared.program.Function as program;
+ghost use Rattle.c_meaning.specs.Memory.{map_ok};
+ghost use Rattle.c_meaning.specs.Memory as spec;
+ghost use Rattle.c_meaning.specs.Running.{call_of, below, state_of, outcome_of};
+ghost use Rattle.c_meaning.specs.Step.{lengths_of, with_ok, with_arguments, enters};
+ghost use Rattle.c_meaning.specs.Step as step;
+ghost use Rattle.c_meaning.specs.Value.{values_of};
+
+use crate::frame::Frame;
+use crate::levels::first as first_levels;
+use crate::memory::Memory;
+use crate::running::{Running, Step, fault};
+use crate::value::{Variables, values};
+use c_kernel::CType;
+use c_kernel::program::{Expr, Function};
+use c3_base::{Cell, NoMemory};
+use std::alloc::{AllocError, Global};
+
+impl Running {
+    /// A function is called by the newest call, which was put back.
+    pub fn call(
+        &mut self,
+        functions: &[Function],
+        caller: Frame,
+        function: usize,
+        arguments: &[Expr],
+    ) -> Result<Step, NoMemory>
+        requires { self.old.memory.next < 2 ^ 62 }
+        ensures { IfOk result (λ did. outcome_of did (state_of functions.now self.new) ≡ with_ok (values_of arguments.now caller.variables self.old.memory) (enters functions.now (state_of functions.now self.old) (call_of functions.now caller ∷ below functions.now self.old) function)) }
+    {
+        match values(self.alloc, arguments, &caller.variables, &self.memory)? {
+            Err(code) => fault(code),
+            Ok(vs) => {
+                self.frames.push(caller)?;
+                self.enter(functions, function, &vs)
+            }
+        }
+    }
+
+    // A function is entered, above the calls.
+    fn enter(
+        &mut self,
+        functions: &[Function],
+        function: usize,
+        arguments: &[Cell],
+    ) -> Result<Step, NoMemory>
+        requires { self.old.memory.next < 2 ^ 62 }
+        ensures { IfOk result (λ did. outcome_of did (state_of functions.now self.new) ≡ enters functions.now (state_of functions.now self.old) (below functions.now self.old) function arguments.now) }
+    {
+        let first = self.memory.next();
+        match self.push_call(functions, function)? {
+            Err(code) => fault(code),
+            Ok(()) => {
+                pass(&mut self.memory, first, arguments);
+                Ok(Step::Local { began: false })
+            }
+        }
+    }
+
+    /// One more call, or the stack has no room for it and nothing changes.
+    pub fn push_call(
+        &mut self,
+        functions: &[Function],
+        function: usize,
+    ) -> Result<Result<(), u16>, NoMemory>
+        requires { self.old.memory.next < 2 ^ 62 }
+        ensures memory { IfOk result (λ did. map_ok (λ done. self.new.memory) did ≡ spec.enter self.old.memory (lengths_of functions.now function)) }
+        ensures calls { IfOk result (λ did. IfOk did (λ done. below functions.now self.new ≡ step.call_of functions.now function self.old.memory.next ∷ below functions.now self.old)) }
+        ensures same { IfOk result (λ did. IfErr did (λ code. self.new ≡ self.old)) }
+        ensures requests { self.new.requests ≡ self.old.requests }
+    {
+        let first = self.memory.next();
+        let lengths = lengths(self.alloc, functions, function)?;
+        match self.memory.enter(&lengths)? {
+            Err(code) => Ok(Err(code)),
+            Ok(()) => {
+                let frame = frame(self.alloc, function, first, lengths.len())?;
+                self.frames.push(frame)?;
+                Ok(Ok(()))
+            }
+        }
+    }
+}
+
+// A call that begins.
+fn frame(alloc: Global, function: usize, first: u64, count: usize) -> Result<Frame, AllocError>
+    requires { first + count < 2 ^ 64 }
+    ensures { IfOk result (λ frame. (functions : List program.Function) → count ≡ length (lengths_of functions function) → call_of functions frame ≡ step.call_of functions function first) }
+{
+    let levels = first_levels(alloc)?;
+    Ok(Frame {
+        function,
+        variables: Variables { first, count },
+        levels,
+    })
+}
+
+// How many cells each variable of a function has.
+fn lengths(alloc: Global, functions: &[Function], function: usize) -> Result<Vec<u32>, AllocError>
+    ensures { IfOk result (λ lengths. lengths.items ≡ lengths_of functions.now function) }
+{
+    match functions.get(function) {
+        None => Ok(Vec::new(alloc)),
+        Some(f) => cells_of(alloc, f.variables.as_slice()),
+    }
+}
+
+fn cells_of(alloc: Global, types: &[CType]) -> Result<Vec<u32>, AllocError>
+    ensures { IfOk result (λ lengths. lengths.items ≡ map extent.cells types.now) }
+{
+    let mut lengths = Vec::new(alloc);
+    for t in types {
+        lengths.push(cells(t))?;
+    }
+    Ok(lengths)
+}
+
+fn cells(t: &CType) -> u32
+    ensures { result ≡ extent.cells t.now }
+{
+    match t {
+        CType::Integer(_) => 1,
+        CType::Void => 0,
+    }
+}
+
+// The parameters get the values.
+fn pass(memory: &mut Memory, first: u64, arguments: &[Cell])
+    requires { first < 2 ^ 62 }
+    ensures { memory.new ≡ with_arguments memory.old first arguments.now }
+{
+    let mut serial = first;
+    for v in arguments {
+        memory.put(Cell { word: 0, serial }, *v);
+        serial += 1;
+    }
+}

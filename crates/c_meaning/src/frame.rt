@@ -1,0 +1,15 @@
+//! A call that is under way.
+
+ghost use Rattle.std.specs.Prelude.{◌+◌, ◌<◌, ◌^◌};
+
+use crate::level::Level;
+use crate::value::Variables;
+
+/// A call that is under way, with its levels, the outermost first.
+#[derive(Debug, Drop)]
+pub struct Frame {
+    pub function: usize,
+    pub variables: Variables,
+    pub levels: Vec<Level>,
+    ghost reach: { variables.first + variables.count < 2 ^ 64 },
+}

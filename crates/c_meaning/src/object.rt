@@ -1,0 +1,102 @@
+//! Objects by their serials.
+
+ghost use Rattle.std.specs.Prelude.{◌≡◌, ◌<◌, ◌^◌, ℕ, option_map, length, replicate, IfSome};
+ghost use Rattle.c_meaning.specs.Order.{IsRising, place_of};
+ghost use Rattle.c_meaning.specs.Seen.{serial_of, objects_of};
+ghost use Rattle.c_meaning.specs.Memory.{find_object, put_cell, zero_object, with_cell, cells_in, null};
+
+use c3_base::Cell;
+
+/// An object.
+#[derive(Debug, Drop)]
+pub struct Object {
+    pub serial: u64,
+    pub cells: Vec<Cell>,
+}
+
+/// Where the object of a serial stands, among objects with ascending serials.
+pub fn place(objects: &[Object], serial: u64) -> Option<usize>
+    requires { IsRising serial_of 0 objects.now (2 ^ 64) }
+    ensures place { result ≡ place_of serial_of objects.now serial }
+    ensures within { IfSome result (λ i. i < length objects.now) }
+{
+    let mut low = 0;
+    let mut high = objects.len();
+    while low < high {
+        let middle = low + (high - low) / 2;
+        if objects[middle].serial < serial {
+            low = middle + 1;
+        } else {
+            high = middle;
+        }
+    }
+    if low < objects.len() && objects[low].serial == serial {
+        Some(low)
+    } else {
+        None
+    }
+}
+
+/// The cells of the object of a serial.
+pub fn find(objects: &[Object], serial: u64) -> Option<&[Cell]>
+    requires { IsRising serial_of 0 objects.now (2 ^ 64) }
+    ensures { option_map (λ cells. cells.now) result ≡ find_object (objects_of objects.now) serial }
+{
+    match place(objects, serial) {
+        None => None,
+        Some(i) => Some(&objects[i].cells),
+    }
+}
+
+/// Puts a cell at a pointer's place.
+pub fn put(objects: &mut Vec<Object>, pointer: Cell, cell: Cell)
+    requires { IsRising serial_of 0 objects.old.items (2 ^ 64) }
+    ensures cells { cells_in (objects_of objects.new.items) ≡ cells_in (objects_of objects.old.items) }
+    ensures put { objects_of objects.new.items ≡ put_cell (objects_of objects.old.items) pointer cell }
+    ensures rising { (low : ℕ) → (high : ℕ) → IsRising serial_of low objects.old.items high → IsRising serial_of low objects.new.items high }
+{
+    if let Some(i) = place(objects, pointer.serial) {
+        put_in(&mut objects[i].cells, pointer.word, cell);
+    }
+}
+
+// Puts a cell among others.
+fn put_in(cells: &mut Vec<Cell>, at: i64, cell: Cell)
+    ensures { cells.new.items ≡ with_cell cells.old.items at cell }
+{
+    if at >= 0 && (at as usize) < cells.len() {
+        cells[at as usize] = cell;
+    }
+}
+
+/// The cells of the object of a serial become (0, 0).
+pub fn zero(objects: &mut Vec<Object>, serial: u64)
+    requires { IsRising serial_of 0 objects.old.items (2 ^ 64) }
+    ensures cells { cells_in (objects_of objects.new.items) ≡ cells_in (objects_of objects.old.items) }
+    ensures zero { objects_of objects.new.items ≡ zero_object (objects_of objects.old.items) serial }
+    ensures rising { (low : ℕ) → (high : ℕ) → IsRising serial_of low objects.old.items high → IsRising serial_of low objects.new.items high }
+{
+    if let Some(i) = place(objects, serial) {
+        clear(&mut objects[i].cells);
+    }
+}
+
+// All cells become (0, 0).
+fn clear(cells: &mut Vec<Cell>)
+    ensures { cells.new.items ≡ replicate (length cells.old.items) null }
+{
+    cells.fill(Cell { word: 0, serial: 0 });
+}
+
+/// How many cells these objects have.
+pub fn total_cells(objects: &[Object]) -> usize
+    requires { cells_in (objects_of objects.now) < 2 ^ 32 }
+    ensures { result ≡ cells_in (objects_of objects.now) }
+{
+    let mut n = 0;
+    for o in objects {
+        let cells: &[Cell] = &o.cells;
+        n += cells.len();
+    }
+    n
+}

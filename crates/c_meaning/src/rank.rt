@@ -1,0 +1,130 @@
+//! A rank that runs a program.
+
+ghost use Rattle.std.specs.Prelude.{◌≡◌, ◌<◌, ◌^◌, IfOk, List};
+ghost use Rattle.c_meaning.specs.Level.{level_items};
+ghost use Rattle.c_meaning.specs.State.{Item};
+ghost use Rattle.c_kernel.specs.declared.program.Program as program;
+ghost use Rattle.c_meaning.specs.Rank.{functions_of, state_of};
+ghost use Rattle.c_meaning.specs.Running as spec;
+ghost use Rattle.c_meaning.specs.Step as step;
+
+use crate::frame::Frame;
+use crate::level::{Stage, block_at, body};
+use crate::memory::Memory;
+use crate::requests::Requests;
+use crate::running::{Running, Step};
+use c_kernel::program::{Function, Program, Stmt};
+use c3_base::NoMemory;
+use mpi_words::Reply;
+use std::alloc::Global;
+use std::rc::Rc;
+
+/// A rank: its program, and the run of it.
+#[derive(Drop)]
+pub struct Rank {
+    program: Rc<Program>,
+    running: Running,
+}
+
+impl Rank {
+    /// A rank that enters `main`.
+    pub fn new(alloc: Global, program: &Rc<Program>) -> Result<Rank, NoMemory>
+        ensures program { IfOk result (λ rank. functions_of rank ≡ program.now.value.functions) }
+        ensures start { IfOk result (λ rank. state_of rank ≡ step.start program.now.value) }
+    {
+        let program = program.clone()?;
+        let running = started(alloc, program.functions.as_slice(), program.main)?;
+        Ok(Rank { program, running })
+    }
+
+    /// The serial of the next variable.
+    pub fn next_serial(&self) -> u64
+        ensures { result ≡ (state_of self.now).memory.next }
+    {
+        self.running.memory.next()
+    }
+
+    /// Whether the next step begins a statement.
+    pub fn begins(&self) -> bool
+        ensures { result ≡ step.begins (state_of self.now) }
+    {
+        if self.running.requests.asked.is_some() {
+            return false;
+        }
+        self.running.begins(self.program.functions.as_slice())
+    }
+
+    /// One step. After an error or an end the rank is not used further.
+    pub fn step(&mut self) -> Result<Step, NoMemory>
+        requires { (state_of self.old).memory.next < 2 ^ 62 }
+        ensures program { functions_of self.new ≡ functions_of self.old }
+        ensures step { IfOk result (λ did. spec.outcome_of did (state_of self.new) ≡ step.step (functions_of self.old) (state_of self.old)) }
+    {
+        self.running.step(self.program.functions.as_slice())
+    }
+
+    /// The reply to the operation that waits for one.
+    pub fn answer(&mut self, reply: Reply)
+        ensures program { functions_of self.new ≡ functions_of self.old }
+        ensures answer { state_of self.new ≡ step.answered (state_of self.old) reply }
+    {
+        match reply {
+            Reply::Done => self.running.requests.answer(),
+        }
+    }
+}
+
+// `main` is entered, where the stack has room for it.
+fn started(alloc: Global, functions: &[Function], main: usize) -> Result<Running, NoMemory>
+    ensures { IfOk result (λ run. (p : program.Program) → p.functions ≡ functions.now → p.main ≡ main → spec.state_of functions.now run ≡ step.start p) }
+{
+    let mut running = Running {
+        alloc,
+        memory: Memory::new(alloc),
+        frames: Vec::new(alloc),
+        requests: Requests::new(),
+    };
+    let _ = running.push_call(functions, main)?;
+    Ok(running)
+}
+
+impl Running {
+    // Whether the newest call begins a statement.
+    #[tactic(auto, using(crate::proofs::Follows::calls_more))]
+    fn begins(&self, functions: &[Function]) -> bool
+        ensures { result ≡ step.begins_in (spec.below functions.now self.now) }
+    {
+        match self.frames.split_last() {
+            None => false,
+            Some((frame, _)) => call_begins(functions, frame),
+        }
+    }
+}
+
+#[tactic(auto, using(crate::proofs::Follows::items_more))]
+fn call_begins(functions: &[Function], frame: &Frame) -> bool
+    ensures { result ≡ step.begins_first (spec.todo functions.now frame.now) }
+{
+    match frame.levels.split_last() {
+        None => false,
+        Some((level, outer)) => {
+            let block = block_at(body(functions, frame.function), outer);
+            level_begins(block, level.next, level.stage)
+        }
+    }
+}
+
+#[tactic(auto, using(crate::proofs::Begins::rest_begins))]
+fn level_begins(block: &[Stmt], next: usize, stage: Stage) -> bool
+    ensures { (todo : List Item) → result ≡ step.begins_first (level_items block.now next stage todo) }
+{
+    match stage {
+        Stage::Entering => true,
+        Stage::Between => next < block.len(),
+        Stage::Begun => false,
+        Stage::Testing => false,
+        Stage::Stepping => false,
+        Stage::Acting { .. } => false,
+        Stage::Awaiting { .. } => false,
+    }
+}

@@ -1,0 +1,171 @@
+//! Statements that have begun.
+
+ghost use Rattle.std.specs.Prelude.{◌≡◌, ◌∷◌, ◌+◌, ◌≤◌, Some, IfOk, List};
+ghost use Rattle.c_kernel.specs.declared.program.Stmt.{out-Stmt};
+ghost use Rattle.c_kernel.specs.declared.program.Stmt.TheOpen.{If};
+ghost use Rattle.c_meaning.specs.declared.level.Stage.TheVariants.{Between, Begun};
+ghost use Rattle.c_meaning.specs.Level as level;
+ghost use Rattle.c_kernel.specs.declared.program.Function as program;
+ghost use Rattle.c_meaning.specs.Running.{todo, block_of, state_of, outcome_of, in_call, standing};
+ghost use Rattle.c_meaning.specs.State.{Rest, after_loop, to_loop};
+ghost use Rattle.c_meaning.specs.Step.{goes_to, asks, goes_on, does, branch, prints, returned, with_ok, bytes_of};
+ghost use Rattle.c_meaning.specs.Text.{printed};
+ghost use Rattle.c_meaning.specs.Value.{value_of, values_of};
+
+use crate::choice::chosen;
+use crate::frame::Frame;
+use crate::level::{Part, Stage, begun};
+use crate::levels::{continue_loop, leave_loop, push};
+use crate::number::number;
+use crate::print::text;
+use crate::requests::copy;
+use crate::running::{Running, Step, block, fault};
+use crate::value::{value, values};
+use c_kernel::program::{Arm, Expr, Function, Piece, Stmt};
+use c3_base::NoMemory;
+use mpi_words::{List, Op};
+
+impl Running {
+    /// A statement that has begun.
+    pub fn perform(
+        &mut self,
+        functions: &[Function],
+        frame: Frame,
+        next: usize,
+    ) -> Result<Step, NoMemory>
+        ensures { IfOk result (λ did. outcome_of did (state_of functions.now self.new) ≡ in_call (goes_on functions.now) functions.now self.old frame (standing functions.now frame next Begun)) }
+    {
+        let block = block(functions, &frame);
+        match begun(block, next) {
+            None => self.leave(frame),
+            Some(x) => self.perform_statement(functions, frame, next, x),
+        }
+    }
+
+    fn perform_statement(
+        &mut self,
+        functions: &[Function],
+        frame: Frame,
+        next: usize,
+        x: &Stmt,
+    ) -> Result<Step, NoMemory>
+        requires { x.now ≡ level.statement_before (block_of functions.now frame) next }
+        ensures { IfOk result (λ did. outcome_of did (state_of functions.now self.new) ≡ in_call (does functions.now) functions.now self.old frame (standing functions.now frame next Between) x.now (out-Stmt x.now)) }
+    {
+        match x {
+            Stmt::Actions(_) => {
+                let part = Part::Own;
+                self.put(frame, next, Stage::Acting { part, at: 0 })
+            }
+            Stmt::Block(_) => self.put_inside(frame, next, Stage::Between, 0),
+            Stmt::If { arms, otherwise } => {
+                self.choose(
+                    functions,
+                    frame,
+                    next,
+                    arms.as_slice(),
+                    otherwise.as_slice(),
+                )
+            }
+            Stmt::While { .. } => self.put(frame, next, Stage::Testing),
+            Stmt::DoWhile { .. } => self.put_inside(frame, next, Stage::Testing, 0),
+            Stmt::For { .. } => {
+                let part = Part::Start;
+                self.put(frame, next, Stage::Acting { part, at: 0 })
+            }
+            Stmt::Break => self.leave(frame),
+            Stmt::Continue => self.resume(frame),
+            Stmt::Return(None) => self.give_back(functions, frame, number(0)),
+            Stmt::Return(Some(e)) => self.return_value(functions, frame, e),
+            Stmt::Print { format, arguments } => {
+                self.print(frame, next, format.as_slice(), arguments.as_slice())
+            }
+            Stmt::Mark => self.ask(frame, next, Op::Mark),
+        }
+    }
+
+    // An `if`.
+    fn choose(
+        &mut self,
+        functions: &[Function],
+        frame: Frame,
+        next: usize,
+        arms: &[Arm<Stmt>],
+        otherwise: &[Stmt],
+    ) -> Result<Step, NoMemory>
+        requires { out-Stmt (level.statement_before (block_of functions.now frame) next) ≡ If arms.now otherwise.now }
+        ensures { IfOk result (λ did. outcome_of did (state_of functions.now self.new) ≡ with_ok (branch arms.now otherwise.now frame.variables self.old.memory) (λ ss. in_call goes_to functions.now self.old frame (Rest ss ∷ standing functions.now frame next Between))) }
+    {
+        match chosen(arms, &frame.variables, &self.memory) {
+            Err(code) => fault(code),
+            Ok(inner) => self.put_inside(frame, next, Stage::Between, inner),
+        }
+    }
+
+    // A `break`.
+    fn leave(&mut self, mut frame: Frame) -> Result<Step, NoMemory>
+        ensures { IfOk result (λ did. (functions : List program.Function) → outcome_of did (state_of functions self.new) ≡ in_call goes_to functions self.old frame (after_loop (todo functions frame))) }
+    {
+        leave_loop(&mut frame.levels)?;
+        self.go_on(frame, false)
+    }
+
+    // A `continue`.
+    fn resume(&mut self, mut frame: Frame) -> Result<Step, NoMemory>
+        ensures { IfOk result (λ did. (functions : List program.Function) → outcome_of did (state_of functions self.new) ≡ in_call goes_to functions self.old frame (to_loop (todo functions frame))) }
+    {
+        continue_loop(&mut frame.levels)?;
+        self.go_on(frame, false)
+    }
+
+    fn return_value(
+        &mut self,
+        functions: &[Function],
+        frame: Frame,
+        e: &Expr,
+    ) -> Result<Step, NoMemory>
+        ensures { IfOk result (λ did. outcome_of did (state_of functions.now self.new) ≡ with_ok (value_of e.now frame.variables self.old.memory) (in_call returned functions.now self.old frame)) }
+    {
+        match value(e, &frame.variables, &self.memory) {
+            Err(code) => fault(code),
+            Ok(v) => self.give_back(functions, frame, v),
+        }
+    }
+
+    // `printf`.
+    fn print(
+        &mut self,
+        frame: Frame,
+        next: usize,
+        format: &[Piece],
+        arguments: &[Expr],
+    ) -> Result<Step, NoMemory>
+        ensures { IfOk result (λ did. (functions : List program.Function) → outcome_of did (state_of functions self.new) ≡ with_ok (values_of arguments.now frame.variables self.old.memory) (λ vs. in_call prints functions self.old frame (standing functions frame next Between) (printed format.now vs))) }
+    {
+        match values(self.alloc, arguments, &frame.variables, &self.memory)? {
+            Err(code) => fault(code),
+            Ok(vs) => self.output(frame, next, text(self.alloc, format, &vs)?),
+        }
+    }
+
+    fn output(&mut self, frame: Frame, next: usize, text: List<u8>) -> Result<Step, NoMemory>
+        ensures { IfOk result (λ did. (functions : List program.Function) → outcome_of did (state_of functions self.new) ≡ in_call prints functions self.old frame (standing functions frame next Between) text) }
+    {
+        if self.requests.printed + text.as_slice().len() as u64 > 1_048_576 {
+            return fault(109);
+        }
+        self.ask(frame, next, Op::Output(text))
+    }
+
+    // An operation, which waits for its reply.
+    fn ask(&mut self, mut frame: Frame, next: usize, op: Op) -> Result<Step, NoMemory>
+        requires { self.old.requests.printed + bytes_of (Some op) ≤ 1048576 }
+        ensures { IfOk result (λ did. (functions : List program.Function) → outcome_of did (state_of functions self.new) ≡ in_call asks functions self.old frame (standing functions frame next Between) op) }
+    {
+        let asked = copy(self.alloc, &op)?;
+        push(&mut frame.levels, next, Stage::Between)?;
+        self.frames.push(frame)?;
+        self.requests.ask(op);
+        Ok(Step::Wants(asked))
+    }
+}

@@ -1,8 +1,0 @@
-use Rattle.std.proofs.Common.{◌≡◌, ◌-◌, length}
-use Rattle.c3_base.specs.Reading.{many_at}
-use Rattle.c_parse.specs.Reading.{statement_at}
-use Rattle.c3_base.proofs.Many.{with_front}
-use Rattle.c_parse.proofs.straight.reading.statements.Given as goal
-
-abbrev pub invariant-loop : goal.invariant-loop
-invariant-loop l = with_front l.statements (many_at statement_at (length l.text - l.counter) l.rest) ≡ many_at statement_at (length l.text) l.text

@@ -1,0 +1,3 @@
+pub mod LastSteps
+pub mod Runs
+pub mod Ranks

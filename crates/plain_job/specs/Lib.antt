@@ -1,0 +1,4 @@
+pub mod Job
+pub mod Turn
+pub mod Members
+pub mod Plain

@@ -1,0 +1,12 @@
+-- What a job in the program is.
+use Rattle.std.specs.Prelude.{List, map}
+use Rattle.c_kernel.specs.declared.program.Function.{Function}
+use Rattle.plain_job.specs.Job.{Job}
+use Rattle.plain_job.specs.Members.{rank_of}
+use Rattle.plain_job.specs.declared.job.PlainJob.{PlainJob}
+
+abbrev pub functions_of : PlainJob → List Function
+functions_of job = job.program.value.functions
+
+abbrev pub ranks_of : PlainJob → Job
+ranks_of job = map rank_of job.members.items
