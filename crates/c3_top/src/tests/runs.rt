@@ -2,6 +2,7 @@
 
 use super::answered;
 use crate::Status;
+use std::alloc::Global;
 use std::test::Fail;
 
 #[test]
@@ -103,11 +104,105 @@ fn runs_programs(rt: HostRuntime) -> Result<(), Fail> {
             "int main(void){potentialCheckpoint();printf(\"a\");potentialCheckpoint();printf(\"b\\n\");return 0;}",
             "rank 0 exit 0 bytes 3\nab\nfinished\n",
         ),
+        (
+            "int main(void){int i=0;do{if(i==3)break;i++;}while(1);while(i<9){i+=2;if(i%2)continue;i++;}printf(\"%d\\n\",i);return i;}",
+            "rank 0 exit 9 bytes 2\n9\nfinished\n",
+        ),
+        (
+            "int main(void){for(char c=97;c<=102;c++)printf(\"%c%d%c\",c,c-97,c==102?10:44);return 0;}",
+            "rank 0 exit 0 bytes 18\na0,b1,c2,d3,e4,f5\nfinished\n",
+        ),
+        (
+            "long mul(long a,long b){return a*b;}int main(void){long p=1;for(int i=1;i<=20;i++)p=mul(p,i);printf(\"%ld\\n\",p);return (int)(p%1000007);}",
+            "rank 0 exit 794133 bytes 20\n2432902008176640000\nfinished\n",
+        ),
+        (
+            "int sign(int n){return n<0?-1:n>0?1:0;}int main(void){int a=sign(-5),b=sign(0),c=sign(9);printf(\"%d%d%d\\n\",a,b,c);return a+b+c;}",
+            "rank 0 exit 0 bytes 5\n-101\nfinished\n",
+        ),
+        (
+            "int main(void){int n=5;while(n){int k=n;while(k){printf(\"*\");k--;}printf(\"\\n\");n-=2;if(n<0)break;}return n;}",
+            "rank 0 exit -1 bytes 12\n*****\n***\n*\nfinished\n",
+        ),
+        (
+            "int digits(long n){int k=0;do{k++;n/=10;}while(n!=0);return k;}int main(void){int a=digits(0),b=digits(-123456789012),c=digits(99);printf(\"%d %d %d\\n\",a,b,c);return a*100+b*10+c;}",
+            "rank 0 exit 222 bytes 7\n1 12 2\nfinished\n",
+        ),
     ];
     for (text, answer) in rows {
         let (status, written) = answered(rt.alloc(), "plain 1", text.as_bytes())?;
         assert_eq!(rt; status, Status::Done, "at {text}");
         assert_eq!(rt; written.as_slice(), answer.as_bytes(), "at {text}");
+    }
+    Ok(())
+}
+
+/// The text of times pieces between two others.
+fn repeated(
+    alloc: Global,
+    front: &str,
+    piece: &str,
+    times: usize,
+    back: &str,
+) -> Result<Vec<u8>, Fail> {
+    let mut text = Vec::from_slice(alloc, front.as_bytes())?;
+    for _ in 0..times {
+        text.extend_from_slice(piece.as_bytes())?;
+    }
+    text.extend_from_slice(back.as_bytes())?;
+    Ok(text)
+}
+
+#[test]
+fn keeps_the_limit_of_output(rt: HostRuntime) -> Result<(), Fail> {
+    let letters = "a";
+    let rows = [
+        (
+            512,
+            "for(int i=0;i<2048;i++)printf(\"",
+            "\");return 3;}",
+            "rank 0 exit 3 bytes 1048576\n",
+            1048576,
+        ),
+        (
+            400,
+            "while(1)printf(\"",
+            "\");}",
+            "rank 0 fault 109 bytes 1048400\n",
+            1048400,
+        ),
+        (
+            300,
+            "while(1)printf(\"",
+            "\");}",
+            "rank 0 running ops 3076 bytes 922800\nunfinished\n",
+            0,
+        ),
+    ];
+    for (times, loop_, back, front, output) in rows {
+        let head = repeated(rt.alloc(), "int main(void){", loop_, 1, "")?;
+        let mut text = repeated(rt.alloc(), "", letters, times, back)?;
+        let mut input = head;
+        input.append(&mut text)?;
+        let (_, written) = answered(rt.alloc(), "plain 1", &input)?;
+        assert_eq!(rt; written.starts_with(front.as_bytes()), true, "at {times}");
+        let end = if output == 0 { 0 } else { "finished\n".len() };
+        assert_eq!(rt; written.len(), front.len() + output + end, "at {times}");
+    }
+    Ok(())
+}
+
+#[test]
+fn keeps_the_limit_of_levels(rt: HostRuntime) -> Result<(), Fail> {
+    let rows = [
+        (62, "rank 0 exit 0 bytes 0\nfinished\n"),
+        (63, "refused TooDeep at 86\n"),
+    ];
+    for (times, answer) in rows {
+        let mut input = repeated(rt.alloc(), "int main(void){int x;x=", "(", times, "1")?;
+        input.append(&mut repeated(rt.alloc(), "", ")", times, ";return 0;}")?)?;
+        let (_, written) = answered(rt.alloc(), "plain 1", &input)?;
+        assert_eq!(rt; written.as_slice(), answer.as_bytes(), "at {times}");
     }
     Ok(())
 }
