@@ -1,0 +1,6 @@
+//! A job under a schedule.
+#![tactic(auto)]
+
+mod event;
+
+pub use event::Event;

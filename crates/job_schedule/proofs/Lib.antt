@@ -1,0 +1,10 @@
+mod Numbers
+mod Turns
+mod Options
+mod Readable
+mod Signs
+mod Ranks
+mod Tables
+mod Splits
+mod Verdicts
+mod Found
