@@ -1,8 +1,12 @@
-//! What ranks do that others see: operations with their replies, and ends.
+//! What ranks do that others see: messages and what takes them, operations with their replies, and ends.
 #![tactic(auto)]
 
 mod list;
+mod message;
 mod operation;
+mod pattern;
 
 pub use list::List;
+pub use message::{Datatype, Message};
 pub use operation::{End, Op, Reply};
+pub use pattern::{Pattern, Patterns, matches};

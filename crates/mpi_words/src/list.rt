@@ -1,7 +1,8 @@
 #[cfg(test)]
 mod tests;
 
-ghost use Rattle.std.specs.Prelude.{◌≡◌, [], ◌∷◌, ◌++◌, OnOk, OnErr};
+ghost use Rattle.std.specs.Prelude.{◌≡◌, ◌<◌, [], ◌∷◌, ◌++◌, length, IfOk, OnOk, OnErr, slice_index_or};
+ghost use Rattle.std.specs.List.{remove};
 
 use c3_base::NoMemory;
 use std::alloc::Global;
@@ -49,5 +50,23 @@ impl<T> List<T> {
     {
         self.items.push(item)?;
         Ok(())
+    }
+    /// Takes out the item at a place.
+    pub fn remove(&mut self, at: usize) -> T
+        requires { at < length self.old }
+        ensures item { result ≡ slice_index_or self.old at result }
+        ensures others { self.new ≡ remove self.old at }
+    {
+        self.items.remove(at)
+    }
+}
+
+impl<T: Copy> List<T> {
+    /// An equal list.
+    pub fn copy(&self) -> Result<Self, NoMemory>
+        ensures { IfOk result (λ copy. copy ≡ self.now) }
+    {
+        let items = Vec::from_slice(*self.items.allocator(), &self.items)?;
+        Ok(List { items })
     }
 }

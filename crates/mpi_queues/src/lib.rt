@@ -1,0 +1,12 @@
+//! Messages on their way: a list for each ordered pair of ranks, and the mailbox of a rank.
+#![tactic(auto)]
+
+mod channels;
+pub mod law;
+mod mailbox;
+mod queue;
+#[cfg(test)]
+mod tests;
+
+pub use channels::Channels;
+pub use mailbox::Mailbox;
