@@ -2,6 +2,7 @@
 use Rattle.std.proofs.Common.{◌≡◌, ℕ, ◌+◌, ◌<◌, suc, get_or, drop, drop-cons, add-one, length, List, [], ◌∷◌, ◌++◌, Option, Some, None, option_map, refl, ap, ◌∙◌, sym, append_assoc, append-nil, arith}
 use Rattle.c_tree.specs.declared.tree.Item.{Item}
 use Rattle.c_kernel.specs.declared.program.Function.{Function}
+use Rattle.c_kernel.specs.declared.types.Struct.{Struct}
 use Rattle.c_rules.specs.declared.fault.Fault.{Fault}
 use Rattle.c_rules.specs.declared.signature.Signature.{Signature}
 use Rattle.c_rules.specs.Judged.{Judged, by, sound, given, both}
@@ -9,6 +10,7 @@ use Rattle.c_rules.specs.Scope.{Bytes}
 use Rattle.c_rules.proofs.Gathered.{joined}
 use Rattle.c_check.specs.Functions.{next_number}
 use Rattle.c_check.specs.Program.{item_judged, items_judged}
+use Rattle.c_check.specs.Structs.{with_item, all_structs}
 
 -- where faults were added, nothing is found
 pub broken : {A : Type 0} (x : A) (before after faults : List Fault) → after ≡ before ++ faults → length before < length after → None ≡ sound faults x
@@ -33,27 +35,39 @@ left : {A : Type 0} (xs : List A) (at : ℕ) (x : A) → at < length xs → x �
 left xs at x within here = drop-cons xs at x within ∙ ap (λ y. y ∷ drop (suc at) xs) (sym here) ∙ ap (λ n. x ∷ drop n xs) (sym (add-one at))
 
 -- an item and those after it
-module _ (functions : Bytes → Option Signature) (is : List Item) (at k next : ℕ) (i : Item) (within : at < length is) (here : i ≡ get_or is at i) (number : next ≡ next_number k i) where
-  abbrev one : Judged (List Function)
-  one = item_judged functions k i
+module _ (is : List Item) (at : ℕ) (i : Item) (within : at < length is) (here : i ≡ get_or is at i) where
+  pub items_structs : (structs later : List Struct) → later ≡ with_item structs i → all_structs later (drop (at + 1) is) ≡ all_structs structs (drop at is)
+  items_structs structs later added =
+      ap (λ ss. all_structs ss (drop (at + 1) is)) added
+      ∙ ap (all_structs structs) (sym (left is at i within here))
 
-  abbrev after : ℕ → Judged (List Function)
-  after n = items_judged functions n (drop (at + 1) is)
+module _ (functions : Bytes → Option Signature) (is : List Item) (at k next : ℕ) (structs passed later : List Struct) (i : Item)
+    (within : at < length is) (here : i ≡ get_or is at i) (number : next ≡ next_number k i) (same : passed ≡ structs) (added : later ≡ with_item structs i) where
+  abbrev one : List Struct → Judged (List Function)
+  one ss = item_judged functions ss k i
 
-  pub items_found : (all more found : Option (List Function)) → more ≡ one.found → found ≡ option_map (λ p. p.0 ++ p.1) (both all more)
-      → joined found (after next).found ≡ joined all (items_judged functions k (drop at is)).found
+  abbrev after : List Struct → ℕ → Judged (List Function)
+  after ss n = items_judged functions ss n (drop (at + 1) is)
+
+  follows : after later next ≡ after (with_item structs i) (next_number k i)
+  follows = ap (after later) number ∙ ap (λ ss. after ss (next_number k i)) added
+
+  pub items_found : (all more found : Option (List Function)) → more ≡ (one passed).found → found ≡ option_map (λ p. p.0 ++ p.1) (both all more)
+      → joined found (after later next).found ≡ joined all (items_judged functions structs k (drop at is)).found
   items_found all more found x xs =
-      ap (λ n. joined found (after n).found) number
-      ∙ ap (λ fs. joined fs (after (next_number k i)).found) (xs ∙ ap (λ m. option_map (λ p. p.0 ++ p.1) (both all m)) x)
-      ∙ found_more all one.found (after (next_number k i)).found
-      ∙ ap (λ js. joined all (items_judged functions k js).found) (sym (left is at i within here))
+      let rest = after (with_item structs i) (next_number k i) in
+      ap (λ (j : Judged (List Function)). joined found j.found) follows
+      ∙ ap (λ fs. joined fs rest.found) (xs ∙ ap (λ m. option_map (λ p. p.0 ++ p.1) (both all m)) (x ∙ ap (λ ss. (one ss).found) same))
+      ∙ found_more all (one structs).found rest.found
+      ∙ ap (λ js. joined all (items_judged functions structs k js).found) (sym (left is at i within here))
 
-  pub items_faults : (noted faults : List Fault) → faults ≡ noted ++ one.faults
-      → faults ++ (after next).faults ≡ noted ++ (items_judged functions k (drop at is)).faults
+  pub items_faults : (noted faults : List Fault) → faults ≡ noted ++ (one passed).faults
+      → faults ++ (after later next).faults ≡ noted ++ (items_judged functions structs k (drop at is)).faults
   items_faults noted faults x =
-      let rest = after (next_number k i) in
-      ap (λ n. faults ++ (after n).faults) number
-      ∙ ap (λ fs. fs ++ rest.faults) x
-      ∙ append_assoc noted one.faults rest.faults
-      ∙ ap (λ fs. noted ++ fs) (sym (append-nil (one.faults ++ rest.faults)) ∙ ap (λ fs. (one.faults ++ rest.faults) ++ fs) (sym (none_more one.found rest.found)))
-      ∙ ap (λ js. noted ++ (items_judged functions k js).faults) (sym (left is at i within here))
+      let rest = after (with_item structs i) (next_number k i) in
+      let new = (one structs).faults in
+      ap (λ (j : Judged (List Function)). faults ++ j.faults) follows
+      ∙ ap (λ fs. fs ++ rest.faults) (x ∙ ap (λ ss. noted ++ (one ss).faults) same)
+      ∙ append_assoc noted new rest.faults
+      ∙ ap (λ fs. noted ++ fs) (sym (append-nil (new ++ rest.faults)) ∙ ap (λ fs. (new ++ rest.faults) ++ fs) (sym (none_more (one structs).found rest.found)))
+      ∙ ap (λ js. noted ++ (items_judged functions structs k js).faults) (sym (left is at i within here))

@@ -1,5 +1,7 @@
 pub mod SmallTrees
 pub mod Examples
+pub mod PointerExamples
+pub mod StructExamples
 pub mod TypedExamples
 pub mod Nodes
 pub mod Least
@@ -11,3 +13,4 @@ pub mod Verdicts
 pub mod Tables
 pub mod InOrder
 pub mod Bodies
+pub mod Silences

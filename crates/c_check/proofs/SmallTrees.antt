@@ -1,12 +1,17 @@
 -- Trees of small programs, and what the definition says of them.
-use Rattle.std.proofs.Common.{◌≡◌, ap, ℕ, List, [], ◌∷◌, Option, Some, Bool, codes}
+use Rattle.std.proofs.Common.{◌≡◌, ap, ℕ, ◌+◌, List, [], ◌∷◌, Option, Some, None, Bool, codes}
 use Rattle.c_tree.specs.declared.tree.Item.{Item}
+use Rattle.c_tree.specs.declared.tree.Item.TheVariants as item
 use Rattle.c_tree.specs.declared.tree.Heading.{Heading}
 use Rattle.c_tree.specs.declared.tree.Parameter.{Parameter}
 use Rattle.c_tree.specs.declared.tree.Bound.{Bound}
 use Rattle.c_tree.specs.declared.tree.Name.{Name}
 use Rattle.c_tree.specs.declared.tree.Number.{Number}
 use Rattle.c_tree.specs.declared.tree.TypeSpecifier.{TypeSpecifier}
+use Rattle.c_tree.specs.declared.tree.TypeSpecifier.TheVariants as specifier
+use Rattle.c_tree.specs.declared.tree.PlainType.TheVariants as plain
+use Rattle.c_tree.specs.declared.tree.MemberDeclaration.{MemberDeclaration}
+use Rattle.c_tree.specs.declared.tree.MemberDeclarator.{MemberDeclarator}
 use Rattle.c_tree.specs.declared.tree.Declaration.{Declaration}
 use Rattle.c_tree.specs.declared.tree.InitDeclarator.{InitDeclarator}
 use Rattle.c_tree.specs.declared.tree.Block.{Block}
@@ -31,9 +36,11 @@ use Rattle.c_tree.specs.declared.tree.Stmt.TheViews.{roll-Stmt}
 use Rattle.c_tree.specs.declared.token.Operator.{Operator}
 use Rattle.c_tree.specs.declared.kind.Kind.{Kind}
 use Rattle.c_kernel.specs.declared.types.CType.{CType}
-use Rattle.c_kernel.specs.declared.types.CType.TheVariants.{Integer}
+use Rattle.c_kernel.specs.declared.types.Base.TheVariants as base
 use Rattle.c_kernel.specs.declared.types.IntegerType.{IntegerType}
 use Rattle.c_kernel.specs.declared.types.IntegerType.TheVariants as integer
+use Rattle.c_kernel.specs.declared.types.ObjectType.{ObjectType}
+use Rattle.c_kernel.specs.declared.types.Struct.{Struct}
 use Rattle.c_kernel.specs.declared.program.Program.{Program}
 use Rattle.c_kernel.specs.declared.program.Stmt.{Stmt as Form}
 use Rattle.c_kernel.specs.declared.program.Stmt.TheVariants as typed
@@ -41,16 +48,27 @@ use Rattle.c_kernel.specs.declared.program.Action.TheVariants as action
 use Rattle.c_kernel.specs.declared.program.Expr.{Expr as Term}
 use Rattle.c_kernel.specs.declared.program.Expr.TheVariants as term
 use Rattle.c_kernel.specs.declared.program.Link.{Link as TypedLink}
+use Rattle.c_kernel.specs.declared.program.Place.{Place}
+use Rattle.c_kernel.specs.declared.program.Root.TheVariants as root
+use Rattle.c_kernel.specs.declared.program.Scalar.TheVariants as scalar
+use Rattle.c_kernel.specs.declared.program.Selection.{Selection}
 use Rattle.c_kernel.specs.declared.program.BinaryOperator.{BinaryOperator}
 use Rattle.c_rules.specs.declared.fault.Fault.{Fault}
 use Rattle.c_rules.specs.declared.signature.Signature.{Signature}
 use Rattle.c_rules.specs.Judged.{Judged}
+use Rattle.c_rules.specs.Rules as rules
 use Rattle.c_rules.specs.Scope.{Bytes, Scope}
 use Rattle.c_check.specs.Expression as expression
-use Rattle.c_check.specs.Expression.{Seen, seen}
+use Rattle.c_check.specs.Expression.{Seen, seen, judged}
 use Rattle.c_check.specs.Statement as statement
 use Rattle.c_check.specs.Statement.{Node, walked}
 use Rattle.c_check.specs.Program.{judged_tree}
+
+-- ---- all that a tree's rules compute with
+
+unfoldable pub EachRule : Type 0
+unfolding rules.unary rules.negation rules.dereference rules.address rules.cast rules.size_of rules.index rules.dot rules.arrow rules.arithmetic rules.plus rules.minus rules.shift rules.comparison rules.logical rules.choice rules.call statement.assign statement.compound statement.returned statement.freed statement.printed statement.guarded
+EachRule = Unit {0}
 
 -- ---- trees
 
@@ -65,6 +83,12 @@ parameter t stars name array = record { specifier = t; stars = stars; name = nam
 
 abbrev pub heading : TypeSpecifier → ℕ → Name → List Parameter → Heading
 heading t stars name parameters = record { specifier = t; stars = stars; name = name; parameters = parameters }
+
+abbrev pub declared : ℕ → MemberName → List Number → MemberDeclarator
+declared stars name sizes = record { stars = stars; name = name; sizes = sizes }
+
+abbrev pub members : TypeSpecifier → List MemberDeclarator → MemberDeclaration
+members t ds = record { specifier = t; declarators = ds }
 
 abbrev pub variable : ℕ → Name → List Number → Option Expr → InitDeclarator
 variable stars name sizes value = record { stars = stars; name = name; sizes = sizes; value = value }
@@ -165,22 +189,19 @@ finalize at = roll-Stmt (Stmt-F.Mpi (mpi.Finalize at))
 abbrev pub simple : SimpleStatement → Stmt
 simple x = roll-Stmt (Stmt-F.Simple x)
 
-abbrev pub char : CType
-char = Integer integer.Char
-
-abbrev pub int : CType
-int = Integer integer.Int
-
-abbrev pub long : CType
-long = Integer integer.Long
+-- int main(void){..}
+abbrev pub main_at : ℕ → List (BlockItem Stmt) → Item
+main_at at items = item.Function (heading (specifier.Plain at plain.Int) 0 (named (at + 4) (codes "main")) (parameter (specifier.Plain (at + 9) plain.Void) 0 None None ∷ [])) (block (at + 14) items)
 
 -- ---- what the definition says
 
-pub seen_roll : (functions : Bytes → Option Signature) (s : Scope) (x : Expr-F Expr) → seen functions s (roll-Expr x) ≡ expression.node functions s (map-Expr Expr Seen (seen functions s) x)
-seen_roll functions s x = fold-roll-Expr Seen (expression.node functions s) x
+pub seen_roll : (functions : Bytes → Option Signature) (structs : List Struct) (s : Scope) (x : Expr-F Expr) → seen functions structs s (roll-Expr x) ≡ expression.node functions structs s (map-Expr Expr Seen (seen functions structs s) x)
+seen_roll functions structs s x = fold-roll-Expr Seen (expression.node functions structs s) x
 
-pub walked_roll : (functions : Bytes → Option Signature) (result : CType) (x : Stmt-F Stmt) (looping : Bool) (s : Scope) → walked functions result (roll-Stmt x) looping s ≡ statement.statement_node functions result (map-Stmt Stmt (Node functions) (walked functions result) x) looping s
-walked_roll functions result x looping s = ap (λ w. w looping s) (fold-roll-Stmt (Node functions) (statement.statement_node functions result) x)
+pub walked_roll : (functions : Bytes → Option Signature) (structs : List Struct) (result : CType) (x : Stmt-F Stmt) (looping : Bool) (s : Scope) → walked functions structs result (roll-Stmt x) looping s ≡ statement.statement_node functions structs result (map-Stmt Stmt (Node functions structs) (walked functions structs result) x) looping s
+walked_roll functions structs result x looping s = ap (λ w. w looping s) (fold-roll-Stmt (Node functions structs) (statement.statement_node functions structs result) x)
+
+pub ruleset judging = (seen_roll, walked_roll, walked, judged)
 
 abbrev pub fault : Kind → ℕ → Fault
 fault kind at = record { kind = kind; at = at }
@@ -194,28 +215,69 @@ whole items length = judged_tree (record { items = items }) length
 abbrev pub accepted : Program → Judged Program
 accepted p = record { faults = []; found = Some p }
 
-abbrev pub program_of : Bytes → CType → ℕ → List CType → List Form → Program
-program_of name result parameters variables body =
-    record { functions = record { name = name; result = result; parameters = parameters; variables = variables; body = body } ∷ []; main = 0 }
+-- ---- typed forms
+
+abbrev pub char : CType
+char = record { base = base.Integer integer.Char; stars = 0 }
+
+abbrev pub int : CType
+int = record { base = base.Integer integer.Int; stars = 0 }
+
+abbrev pub long : CType
+long = record { base = base.Integer integer.Long; stars = 0 }
+
+abbrev pub structure : ℕ → CType
+structure n = record { base = base.Struct n; stars = 0 }
+
+abbrev pub to : CType → CType
+to t = record { base = t.base; stars = t.stars + 1 }
+
+-- an object of one cell, and one of so many
+abbrev pub single : CType → ObjectType
+single t = record { element = t; sizes = []; cells = 1 }
+
+abbrev pub object : CType → List ℕ → ℕ → ObjectType
+object t ns cells = record { element = t; sizes = ns; cells = cells }
+
+abbrev pub program_of : List Struct → List ObjectType → List Form → Program
+program_of structs variables body =
+    record { structs = structs; functions = record { name = codes "main"; result = int; parameters = 0; variables = variables; body = body } ∷ []; main = 0 }
+
+abbrev pub zero : ℕ → Form
+zero k = typed.Actions (action.Zero k ∷ [])
 
 -- a main with a char, an int and a long, its first three variables
 abbrev pub three : List Form → Program
-three body = program_of (codes "main") int 0 (char ∷ int ∷ long ∷ []) (typed.Actions (action.Zero 0 ∷ []) ∷ typed.Actions (action.Zero 1 ∷ []) ∷ typed.Actions (action.Zero 2 ∷ []) ∷ body)
+three body = program_of [] (single char ∷ single int ∷ single long ∷ []) (zero 0 ∷ zero 1 ∷ zero 2 ∷ body)
+
+-- places in a variable, and behind a pointer
+abbrev pub within : ℕ → List (Selection Term) → Place Term
+within k steps = record { root = root.Variable k; steps = steps }
+
+abbrev pub behind : Term → List (Selection Term) → Place Term
+behind p steps = record { root = root.Target p; steps = steps }
+
+-- the number and the pointer at a place
+abbrev pub read : IntegerType → Place Term → Term
+read kind p = term.Load p (scalar.Number kind)
+
+abbrev pub followed : Place Term → Term
+followed p = term.Load p scalar.Pointer
 
 abbrev pub c : Term
-c = term.Load (term.Variable 0) integer.Char
+c = read integer.Char (within 0 [])
 
 abbrev pub i : Term
-i = term.Load (term.Variable 1) integer.Int
+i = read integer.Int (within 1 [])
 
 abbrev pub l : Term
-l = term.Load (term.Variable 2) integer.Long
+l = read integer.Long (within 2 [])
 
 abbrev pub bond : Option IntegerType → BinaryOperator → Term → TypedLink Term
 bond conversion o e = record { conversion = conversion; operator = o; operand = e }
 
 abbrev pub sets : ℕ → Term → Form
-sets x e = typed.Actions (action.Set (term.Variable x) e ∷ [])
+sets x e = typed.Actions (action.Set (within x []) e ∷ [])
 
 abbrev pub two : Term → TypedLink Term → Term
 two a b = term.Chain a (b ∷ [])

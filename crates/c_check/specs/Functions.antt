@@ -1,5 +1,5 @@
 -- The functions that can be called, and the rules of their headers (C99 6.7.5.3, 6.9.1).
-use Rattle.std.specs.Prelude.{ℕ, suc, Bool, true, false, not, ◌||◌, ◌&&◌, List, [], ◌∷◌, ◌++◌, map, nat_eq, nat_lt, Option, Some, None, is_some, is_none, if◌then◌else◌}
+use Rattle.std.specs.Prelude.{ℕ, suc, Bool, true, false, not, ◌||◌, ◌&&◌, List, [], ◌∷◌, ◌++◌, map, nat_eq, Option, Some, None, is_some, is_none, if◌then◌else◌}
 use Rattle.std.specs.Option.{option_or}
 use Rattle.std.specs.Str.{bytes_eq}
 use Rattle.c_tree.specs.declared.tree.Item.{Item}
@@ -13,14 +13,16 @@ use Rattle.c_tree.specs.declared.tree.TypeSpecifier.{TypeSpecifier}
 use Rattle.c_tree.specs.declared.tree.TypeSpecifier.TheVariants as specifier
 use Rattle.c_tree.specs.declared.tree.PlainType.{PlainType}
 use Rattle.c_tree.specs.declared.tree.PlainType.TheVariants as word
-use Rattle.c_tree.specs.declared.kind.Kind.TheVariants.{NotYet, UnknownName, Redeclared, BadMain, ArraySize, IncompleteType, PrototypeDiffers}
+use Rattle.c_tree.specs.declared.kind.Kind.TheVariants.{Redeclared, BadMain, ArraySize, IncompleteType, PrototypeDiffers}
 use Rattle.c_kernel.specs.declared.types.CType.{CType}
+use Rattle.c_kernel.specs.declared.types.Struct.{Struct}
 use Rattle.c_rules.specs.declared.fault.Fault.{Fault}
 use Rattle.c_rules.specs.declared.signature.Signature.{Signature}
 use Rattle.c_rules.specs.Judged.{breaks}
 use Rattle.c_rules.specs.Scope.{Bytes, Scope, is_here, declare, hide, start}
-use Rattle.c_rules.specs.Types.{is_unbuilt, type_of, place_of, same_type, same_types}
+use Rattle.c_rules.specs.Types.{type_of, specifier_rules, place_of, is_void_base, is_struct, is_null, pointer_to, same_type, same_types, is_array_size, one_object}
 use Rattle.c_rules.specs.Rules.{main_name}
+use Rattle.c_check.specs.Structs.{with_item}
 
 -- ---- headers
 
@@ -40,8 +42,18 @@ parameters_of [] = []
 parameters_of (p ∷ []) = if is_nothing p then [] else p ∷ []
 parameters_of (p ∷ q ∷ ps) = p ∷ q ∷ ps
 
-abbrev pub types_of : Heading → List CType
-types_of h = map (λ p. type_of p.specifier) (parameters_of h.parameters)
+-- an array parameter is a pointer
+abbrev pub parameter_type : List Struct → Parameter → CType
+parameter_type structs p = elim p.array [
+  | None ↦ type_of structs None p.specifier p.stars
+  | Some size ↦ pointer_to (type_of structs None p.specifier p.stars)
+]
+
+abbrev pub types_of : List Struct → Heading → List CType
+types_of structs h = map (parameter_type structs) (parameters_of h.parameters)
+
+abbrev pub result_of : List Struct → Heading → CType
+result_of structs h = type_of structs None h.specifier h.stars
 
 abbrev pub is_main : Heading → Bool
 is_main h = bytes_eq h.name.bytes main_name
@@ -81,17 +93,17 @@ is_definition (item.Function h body) = true
 abbrev pub next_number : ℕ → Item → ℕ
 next_number k i = if is_definition i then suc k else k
 
-abbrev pub signature_of : ℕ → Bool → Heading → Signature
-signature_of k defined h = record {
-  result = type_of h.specifier;
-  parameters = types_of h;
+abbrev pub signature_of : List Struct → ℕ → Bool → Heading → Signature
+signature_of structs k defined h = record {
+  result = result_of structs h;
+  parameters = types_of structs h;
   number = if defined then Some k else None;
 }
 
 -- what an item says of a name
-abbrev pub said_by : ℕ → Bool → Option Heading → Bytes → Option Signature
-said_by k defined None name = None
-said_by k defined (Some h) name = if bytes_eq h.name.bytes name then Some (signature_of k defined h) else None
+abbrev pub said_by : List Struct → ℕ → Bool → Option Heading → Bytes → Option Signature
+said_by structs k defined None name = None
+said_by structs k defined (Some h) name = if bytes_eq h.name.bytes name then Some (signature_of structs k defined h) else None
 
 -- the first header gives the types, and the first definition the number
 abbrev pub joined : Option Signature → Option Signature → Option Signature
@@ -99,9 +111,10 @@ joined None later = later
 joined (Some f) None = Some f
 joined (Some f) (Some g) = Some (record { result = f.result; parameters = f.parameters; number = option_or f.number g.number })
 
-abbrev pub signatures : ℕ → List Item → Bytes → Option Signature
-signatures k [] name = None
-signatures k (i ∷ is) name = joined (said_by k (is_definition i) (heading_in i) name) (signatures (next_number k i) is name)
+-- of the items that follow these structs and k definitions
+abbrev pub signatures : List Struct → ℕ → List Item → Bytes → Option Signature
+signatures structs k [] name = None
+signatures structs k (i ∷ is) name = joined (said_by structs k (is_definition i) (heading_in i) name) (signatures (with_item structs i) (next_number k i) is name)
 
 abbrev pub number_in : Option Signature → Option ℕ
 number_in None = None
@@ -109,79 +122,90 @@ number_in (Some f) = f.number
 
 -- ---- the rules of a header
 
-abbrev pub struct_rules : TypeSpecifier → List Fault
-struct_rules (specifier.Plain at w) = []
-struct_rules (specifier.Struct at name) = breaks true UnknownName name.at
-
 -- a parameter's name, or its type where it has none
 abbrev pub parameter_place : Parameter → ℕ
 parameter_place p = elim p.name [ None ↦ place_of p.specifier | Some n ↦ n.at ]
-
-abbrev pub is_array_size : ℕ → Bool
-is_array_size n = nat_lt 0 n && nat_lt n 8193
 
 abbrev pub is_bad_bound : Option Bound → Bool
 is_bad_bound None = false
 is_bad_bound (Some bound.Open) = false
 is_bad_bound (Some (bound.Size n)) = not (is_array_size n.value)
 
-abbrev pub is_unbuilt_parameter : Parameter → Bool
-is_unbuilt_parameter p = is_unbuilt p.specifier p.stars || is_some p.array
-
-abbrev pub is_incomplete : Bool → Parameter → Bool
-is_incomplete defined p = (is_word p.specifier word.Void && nat_eq p.stars 0 && is_none p.array) || (defined && is_none p.name)
+-- void, a pointer to void or a struct by value, or in a definition without a name
+abbrev pub is_unfit : List Struct → Bool → Parameter → Bool
+is_unfit structs defined p =
+    let t = parameter_type structs p in
+    is_void_base t.base || is_struct t || (defined && is_none p.name)
 
 -- a name of this scope, if there is one
 abbrev pub is_named_here : Scope → Option Name → Bool
 is_named_here s None = false
 is_named_here s (Some n) = is_here s n.bytes
 
-abbrev pub parameter_rules : Bool → Bool → Scope → Parameter → List Fault
-parameter_rules main defined s p =
-    breaks (not main && is_unbuilt_parameter p) NotYet 0
-    ++ struct_rules p.specifier
+-- nothing is said where a part breaks a rule
+abbrev pub unless_broken : List Fault → List Fault → List Fault
+unless_broken [] rules = rules
+unless_broken (f ∷ fs) rules = []
+
+abbrev pub parameter_rules : List Struct → Bool → Scope → Parameter → List Fault
+parameter_rules structs defined s p =
+    specifier_rules structs None p.specifier
     ++ breaks (is_named_here s p.name) Redeclared (parameter_place p)
-    ++ breaks (is_bad_bound p.array) ArraySize (parameter_place p)
-    ++ breaks (is_incomplete defined p) IncompleteType (parameter_place p)
+    ++ unless_broken (specifier_rules structs None p.specifier) (breaks (is_bad_bound p.array) ArraySize (parameter_place p) ++ breaks (is_unfit structs defined p) IncompleteType (parameter_place p))
 
 -- a parameter comes into scope; those of main are no variables
-abbrev pub with_name : Bool → Option Name → CType → Scope → Scope
-with_name main None kind s = s
-with_name true (Some n) kind s = hide s n.bytes
-with_name false (Some n) kind s = declare s n.bytes kind
+abbrev pub with_name : List Struct → Bool → Option Name → CType → Scope → Scope
+with_name structs main None kind s = s
+with_name structs true (Some n) kind s = hide s n.bytes
+with_name structs false (Some n) kind s = declare s n.bytes (one_object structs kind)
 
-abbrev pub with_parameter : Bool → Parameter → Scope → Scope
-with_parameter main p s = with_name main p.name (type_of p.specifier) s
+abbrev pub with_parameter : List Struct → Bool → Parameter → Scope → Scope
+with_parameter structs main p s = with_name structs main p.name (parameter_type structs p) s
 
-abbrev pub parameters_rules : Bool → Bool → Scope → List Parameter → List Fault
-parameters_rules main defined s [] = []
-parameters_rules main defined s (p ∷ ps) = parameter_rules main defined s p ++ parameters_rules main defined (with_parameter main p s) ps
+abbrev pub parameters_rules : List Struct → Bool → Bool → Scope → List Parameter → List Fault
+parameters_rules structs main defined s [] = []
+parameters_rules structs main defined s (p ∷ ps) = parameter_rules structs defined s p ++ parameters_rules structs main defined (with_parameter structs main p s) ps
 
-abbrev pub with_parameters : Bool → Scope → List Parameter → Scope
-with_parameters main s [] = s
-with_parameters main s (p ∷ ps) = with_parameters main (with_parameter main p s) ps
+abbrev pub with_parameters : List Struct → Bool → Scope → List Parameter → Scope
+with_parameters structs main s [] = s
+with_parameters structs main s (p ∷ ps) = with_parameters structs main (with_parameter structs main p s) ps
 
 -- against the first header of its name
-abbrev pub differs : Heading → Option Signature → Bool
-differs h None = false
-differs h (Some f) = not (same_type (type_of h.specifier) f.result && same_types (types_of h) f.parameters)
+abbrev pub differs : List Struct → Heading → Option Signature → Bool
+differs structs h None = false
+differs structs h (Some f) = not (same_type (result_of structs h) f.result && same_types (types_of structs h) f.parameters)
+
+-- a struct, or a pointer to void
+abbrev pub is_bad_result : CType → Bool
+is_bad_result t = is_struct t || is_null t
 
 -- a second definition of its name
 abbrev pub is_second : ℕ → Bool → Option ℕ → Bool
 is_second k defined None = false
 is_second k defined (Some first) = defined && not (nat_eq first k)
 
-module _ (functions : Bytes → Option Signature) where
-  abbrev pub name_rules : ℕ → Bool → Heading → List Fault
-  name_rules k defined h =
-      breaks (is_second k defined (number_in (functions h.name.bytes))) Redeclared h.name.at
-      ++ breaks (is_main h && not (defined && is_mains h)) BadMain h.name.at
-      ++ breaks (differs h (functions h.name.bytes)) PrototypeDiffers h.name.at
+-- its name
+abbrev pub name_rules : (Bytes → Option Signature) → ℕ → Bool → Heading → List Fault
+name_rules functions k defined h =
+    breaks (is_second k defined (number_in (functions h.name.bytes))) Redeclared h.name.at
+    ++ breaks (is_main h && not (defined && is_mains h)) BadMain h.name.at
+
+-- its parts: the result's specifier and the parameters
+abbrev pub parts_rules : List Struct → Bool → Heading → List Fault
+parts_rules structs defined h =
+    specifier_rules structs None h.specifier
+    ++ parameters_rules structs (is_main h) defined start (parameters_of h.parameters)
+
+module _ (functions : Bytes → Option Signature) (structs : List Struct) where
+  -- its types as a whole
+  abbrev pub type_rules : Heading → List Fault
+  type_rules h =
+      breaks (is_bad_result (result_of structs h)) IncompleteType h.name.at
+      ++ breaks (differs structs h (functions h.name.bytes)) PrototypeDiffers h.name.at
 
   -- the header of an item, which is the k-th definition or stands before it
   abbrev pub heading_rules : ℕ → Bool → Heading → List Fault
   heading_rules k defined h =
-      breaks (not (is_main h) && is_unbuilt h.specifier h.stars) NotYet 0
-      ++ struct_rules h.specifier
-      ++ name_rules k defined h
-      ++ parameters_rules (is_main h) defined start (parameters_of h.parameters)
+      parts_rules structs defined h
+      ++ name_rules functions k defined h
+      ++ unless_broken (parts_rules structs defined h) (type_rules h)

@@ -1,5 +1,6 @@
 pub mod Expression
 pub mod Statement
+pub mod Structs
 pub mod Functions
 pub mod Program
 pub mod Check

@@ -10,6 +10,7 @@ use Rattle.c_tree.specs.declared.tree.Stmt.{Stmt}
 use Rattle.c_tree.specs.declared.kind.Kind.{Kind}
 use Rattle.c_tree.specs.declared.kind.Kind.TheVariants as kind
 use Rattle.c_kernel.specs.declared.types.CType.{CType}
+use Rattle.c_kernel.specs.declared.types.Struct.{Struct}
 use Rattle.c_kernel.specs.declared.program.Program.{Program}
 use Rattle.c_kernel.specs.declared.program.Function.{Function}
 use Rattle.c_kernel.specs.declared.program.Stmt.{Stmt as Typed}
@@ -18,22 +19,22 @@ use Rattle.c_rules.specs.declared.fault.Fault.{Fault}
 use Rattle.c_rules.specs.declared.signature.Signature.{Signature}
 use Rattle.c_rules.specs.Judged.{Judged, by, refused, after, of_parts, as_part}
 use Rattle.c_rules.specs.Scope.{Bytes, Scope, start}
-use Rattle.c_rules.specs.Types.{type_of}
 use Rattle.c_rules.specs.Rules.{main_name}
 use Rattle.c_check.specs.Statement.{Walk, walk_all, walk_as, walked, declaration}
-use Rattle.c_check.specs.Functions.{is_main, parameters_of, with_parameters, heading_rules, signatures, number_in, next_number}
+use Rattle.c_check.specs.Structs.{with_item, all_structs, struct_rules}
+use Rattle.c_check.specs.Functions.{is_main, parameters_of, result_of, with_parameters, heading_rules, signatures, number_in, next_number}
 
 -- ---- a function: its parameters and its body's outermost declarations are one scope
 
-module _ (functions : Bytes → Option Signature) where
+module _ (functions : Bytes → Option Signature) (structs : List Struct) where
   abbrev pub body_item : CType → BlockItem Stmt → Walk Typed
-  body_item result (block_item.Declaration d) = walk_as Actions (declaration functions d)
-  body_item result (block_item.Statement x) = walked functions result x false
+  body_item result (block_item.Declaration d) = walk_as Actions (declaration functions structs d)
+  body_item result (block_item.Statement x) = walked functions structs result x false
 
   abbrev pub made : Heading → Scope → List Typed → Scope → Function
   made h parameters steps inside = record {
     name = h.name.bytes;
-    result = type_of h.specifier;
+    result = result_of structs h;
     parameters = length parameters.variables;
     variables = inside.variables;
     body = steps;
@@ -41,22 +42,23 @@ module _ (functions : Bytes → Option Signature) where
 
   abbrev pub body : Heading → List (BlockItem Stmt) → Judged Function
   body h items =
-      let parameters = with_parameters (is_main h) start (parameters_of h.parameters) in
-      let inside = walk_all (map (body_item (type_of h.specifier)) items) parameters in
+      let parameters = with_parameters structs (is_main h) start (parameters_of h.parameters) in
+      let inside = walk_all (map (body_item (result_of structs h)) items) parameters in
       as_part (λ steps. made h parameters steps inside.scope) inside.judged
 
-  -- ---- the items in order, where so many definitions stand before
-
-  -- what an item adds: a definition one function
+  -- what an item adds, where k definitions stand before it: a definition one function
   abbrev pub item_judged : ℕ → Item → Judged (List Function)
   item_judged k (item.Include at header) = by [] []
-  item_judged k (item.Struct at name members) = refused kind.NotYet 0
-  item_judged k (item.Prototype h) = by (heading_rules functions k false h) []
-  item_judged k (item.Function h b) = after (heading_rules functions k true h) (as_part (λ f. f ∷ []) (body h b.items))
+  item_judged k (item.Struct at name members) = by (struct_rules structs name members) []
+  item_judged k (item.Prototype h) = by (heading_rules functions structs k false h) []
+  item_judged k (item.Function h b) = after (heading_rules functions structs k true h) (as_part (λ f. f ∷ []) (body h b.items))
 
-  abbrev pub items_judged : ℕ → List Item → Judged (List Function)
-  items_judged k [] = by [] []
-  items_judged k (i ∷ is) = of_parts (item_judged k i) (items_judged (next_number k i) is) (λ fs gs. by [] (fs ++ gs))
+-- ---- the items in order, where these structs and so many definitions stand before
+
+abbrev pub items_judged : (Bytes → Option Signature) → List Struct → ℕ → List Item → Judged (List Function)
+items_judged functions structs k [] = by [] []
+items_judged functions structs k (i ∷ is) =
+    of_parts (item_judged functions structs k i) (items_judged functions (with_item structs i) (next_number k i) is) (λ fs gs. by [] (fs ++ gs))
 
 -- ---- the whole, in a text of this length
 
@@ -66,9 +68,9 @@ main_in length (Some k) = by [] k
 
 abbrev pub judged_tree : Tree → ℕ → Judged Program
 judged_tree tree length =
-    let functions = signatures 0 tree.items in
-    of_parts (items_judged functions 0 tree.items) (main_in length (number_in (functions main_name)))
-    (λ fs k. by [] (record { functions = fs; main = k }))
+    let functions = signatures [] 0 tree.items in
+    of_parts (items_judged functions [] 0 tree.items) (main_in length (number_in (functions main_name)))
+    (λ fs k. by [] (record { structs = all_structs [] tree.items; functions = fs; main = k }))
 
 -- ---- the first fault
 

@@ -1,5 +1,5 @@
 -- The rules at each statement and declaration (C99 6.7, 6.8), and what it is found to be.
-use Rattle.std.specs.Prelude.{ℕ, Bool, true, not, ◌||◌, List, [], ◌∷◌, ◌++◌, map, length, nat_lt, Option, Some, None, is_some, is_none, option_map, if◌then◌else◌}
+use Rattle.std.specs.Prelude.{ℕ, Bool, true, false, not, ◌||◌, ◌&&◌, List, [], ◌∷◌, ◌++◌, map, length, Option, Some, None, is_some, is_none, option_map, if◌then◌else◌}
 use Rattle.c_tree.specs.declared.token.Operator.{Operator}
 use Rattle.c_tree.specs.declared.token.Operator.TheVariants as operator
 use Rattle.c_tree.specs.declared.tree.TypeSpecifier.{TypeSpecifier}
@@ -21,9 +21,9 @@ use Rattle.c_tree.specs.declared.tree.Stmt.{Stmt}
 use Rattle.c_tree.specs.declared.tree.Stmt.TheFolds.{fold-Stmt}
 use Rattle.c_tree.specs.declared.tree.Stmt.TheOpen.{Stmt-F}
 use Rattle.c_tree.specs.declared.tree.Stmt.TheOpen as stmt
-use Rattle.c_tree.specs.declared.kind.Kind.TheVariants.{NotYet, Redeclared, NotPlace, CallPlace, ReturnValue, LoopWord, IncompleteType, FormatMismatch}
+use Rattle.c_tree.specs.declared.kind.Kind.TheVariants.{NotYet, Redeclared, NotPointer, NotPlace, TypeMismatch, CallPlace, MallocPlace, ReturnValue, LoopWord, ArraySize, IncompleteType, FormatMismatch}
 use Rattle.c_kernel.specs.declared.types.CType.{CType}
-use Rattle.c_kernel.specs.declared.types.IntegerType.{IntegerType}
+use Rattle.c_kernel.specs.declared.types.Struct.{Struct}
 use Rattle.c_kernel.specs.declared.types.IntegerType.TheVariants.{Int}
 use Rattle.c_kernel.specs.declared.program.Stmt.{Stmt as Typed}
 use Rattle.c_kernel.specs.declared.program.Stmt.TheVariants as typed
@@ -32,79 +32,120 @@ use Rattle.c_kernel.specs.declared.program.Action.{Action}
 use Rattle.c_kernel.specs.declared.program.Action.TheVariants as action
 use Rattle.c_kernel.specs.declared.program.Piece.{Piece}
 use Rattle.c_kernel.specs.declared.program.Expr.{Expr as Term}
-use Rattle.c_kernel.specs.declared.program.Expr.TheVariants as term
 use Rattle.c_rules.specs.declared.fault.Fault.{Fault}
+use Rattle.c_kernel.specs.declared.program.Place.{Place}
+use Rattle.c_kernel.specs.Extent.{extent}
 use Rattle.c_rules.specs.declared.found.Found.{Found}
+use Rattle.c_rules.specs.declared.found.Form.{Form}
+use Rattle.c_rules.specs.declared.found.Form.TheVariants as form
 use Rattle.c_rules.specs.declared.found.Run.{Run}
 use Rattle.c_rules.specs.declared.found.Right.{Right}
 use Rattle.c_rules.specs.declared.found.Right.TheVariants as right_side
 use Rattle.c_rules.specs.declared.found.Invocation.{Invocation}
+use Rattle.c_rules.specs.declared.found.Allocation.{Allocation}
+use Rattle.c_rules.specs.declared.found.Cast.{Cast}
 use Rattle.c_rules.specs.declared.signature.Signature.{Signature}
 use Rattle.c_rules.specs.Judged.{Judged, breaks, by, refused, after, of_part, of_parts, pair_of, more, together, perhaps}
 use Rattle.c_rules.specs.Scope.{Bytes, Scope, is_here, declare, enter, leave}
-use Rattle.c_rules.specs.Types.{is_unbuilt, type_of, is_void, integer_of}
-use Rattle.c_rules.specs.Rules.{plain, place, value, value_in, scalar_rules, constant, begin, closed, link}
-use Rattle.c_check.specs.Expression.{Seen, seen, judged, judged_all, right, invoked}
+use Rattle.c_rules.specs.Types.{type_of, specifier_rules, is_void, is_pointer, is_struct, is_target, is_incomplete, scalar_of, target, same_type, is_array, object_type, is_too_large}
+use Rattle.c_rules.specs.Rules.{kind_of, plain, place, variable, value, value_as, scalar_rules, number_rules, value_rules, clash, constant, begin, closed, link}
+use Rattle.c_check.specs.Expression.{Seen, Allocated, seen, judged, judged_all, right, invoked, allocation}
 use Rattle.c_rules.specs.Format.{pieces, fit}
 
 -- ---- what stands at once (6.5.2.4, 6.5.3.1, 6.5.16, 6.8.3)
 
-abbrev pub place_rules : Found → List Fault
-place_rules a = breaks (not a.place) NotPlace a.at
+-- what stands left of = is a place, and no array or struct
+abbrev pub is_assignable : Form → Bool
+is_assignable (form.Zero kind) = false
+is_assignable (form.Value kind e) = false
+is_assignable (form.Place kind p) = not (is_array kind || is_struct kind.element)
 
-abbrev pub right_rules : Right → List Fault
-right_rules (right_side.Value v) = scalar_rules v.at v.kind
-right_rules (right_side.Result c) = scalar_rules c.at c.kind
+abbrev pub place_rules : Found → List Fault
+place_rules a = breaks (not (is_assignable a.form)) NotPlace a.at
+
+abbrev pub place_in : Form → Place Term
+place_in (form.Zero kind) = variable 0
+place_in (form.Value kind e) = variable 0
+place_in (form.Place kind p) = p
+
+-- a malloc for a pointer of the type (7.20.3.3); a cast before it is to this type
+abbrev pub cast_rules : CType → Option Cast → List Fault
+cast_rules t None = []
+cast_rules t (Some c) = breaks (is_target t && not (same_type c.kind t)) TypeMismatch c.at
+
+abbrev pub memory_rules : CType → Allocation → List Fault
+memory_rules t m =
+    number_rules m.bytes.at (kind_of m.bytes)
+    ++ breaks (not (is_target t)) MallocPlace m.at
+    ++ cast_rules t m.cast
+
+-- what goes to a place of the type
+abbrev pub right_rules : CType → Right → List Fault
+right_rules t (right_side.Value v) = value_rules t v
+right_rules t (right_side.Result c) = scalar_rules c.at c.kind ++ breaks (clash t false c.kind) TypeMismatch c.at
+right_rules t (right_side.Memory m) = memory_rules t m
 
 -- the value in the place's type
-abbrev pub stored : Term → IntegerType → Right → Action
-stored p kind (right_side.Value v) = action.Set p (value_in kind v)
-stored p kind (right_side.Result c) = action.Call (Some (record { place = p; kind = kind })) c.function c.arguments
+abbrev pub stored : List Struct → Place Term → CType → Right → Action
+stored structs p t (right_side.Value v) = action.Set p (value_as t v)
+stored structs p t (right_side.Result c) = action.Call (Some (record { place = p; kind = scalar_of t })) c.function c.arguments
+stored structs p t (right_side.Memory m) = action.Malloc p (value m.bytes) (extent structs (target t))
 
 -- a = r
-unfoldable pub assign : Found → Right → Judged Action
-assign a r = by (place_rules a ++ right_rules r) (stored a.term (integer_of a.kind) r)
+unfoldable pub assign : List Struct → Found → Right → Judged Action
+assign structs a r = by (place_rules a ++ right_rules (kind_of a) r) (stored structs (place_in a.form) (kind_of a) r)
 
 -- a o= v is a = a o v
-abbrev pub updated : Found → Run → Judged Action
-updated a run = by [] (stored a.term (integer_of a.kind) (right_side.Value (plain run.at run.kind (closed run))))
+abbrev pub updated : List Struct → ℕ → Found → Run → Judged Action
+updated structs at a run =
+    by (breaks (clash (kind_of a) false run.kind) TypeMismatch at)
+    (stored structs (place_in a.form) (kind_of a) (right_side.Value (plain run.at run.kind (closed run))))
 
-unfoldable pub compound : Operator → Found → Found → Judged Action
-compound o a v = of_parts (by (place_rules a) a) (link o (begin a) v) updated
+unfoldable pub compound : List Struct → Operator → Found → Found → Judged Action
+compound structs o a v = of_parts (by (place_rules a) a) (link structs o (begin a) v) (updated structs v.at)
 
 -- a++ is a = a + 1
 abbrev pub step_operator : Step → Operator
 step_operator step.Increment = operator.Plus
 step_operator step.Decrement = operator.Minus
 
-abbrev pub stepped : Step → Found → Judged Action
-stepped how a = compound (step_operator how) a (constant a.at 1 Int)
+abbrev pub stepped : List Struct → Step → Found → Judged Action
+stepped structs how a = compound structs (step_operator how) a (constant a.at 1 Int)
 
 -- a call whose result isn't used
 abbrev pub called : Invocation → Judged Action
 called c = by [] (action.Call None c.function c.arguments)
 
-abbrev pub expression_statement : Judged Found → Option (Judged Invocation) → Judged Action
-expression_statement e (Some c) = of_part c called
-expression_statement e None = of_part e (λ a. refused CallPlace a.at)
+-- no other expression is a statement, and a malloc isn't either
+abbrev pub call_statement : Judged Found → Option (Judged Invocation) → Judged Action
+call_statement e (Some c) = of_part c called
+call_statement e None = of_part e (λ a. refused CallPlace a.at)
+
+abbrev pub expression_statement : Judged Found → Option (Judged Invocation) → Option Allocated → Judged Action
+expression_statement e c (Some m) = of_part (allocation m) (λ x. refused CallPlace m.at)
+expression_statement e c None = call_statement e c
 
 -- ---- conditions and single statements
 
 abbrev pub condition_of : Found → Judged Term
-condition_of a = by (scalar_rules a.at a.kind) (value a)
+condition_of a = by (scalar_rules a.at (kind_of a)) (value a)
 
 -- return (6.8.6.4)
-abbrev pub value_rules : Option Found → List Fault
-value_rules None = []
-value_rules (Some v) = scalar_rules v.at v.kind
+abbrev pub result_rules : CType → Option Found → List Fault
+result_rules result None = []
+result_rules result (Some v) = value_rules result v
 
 abbrev pub return_rules : ℕ → CType → Option Found → List Fault
 return_rules at result v =
     breaks (if is_void result then is_some v else is_none v) ReturnValue at
-    ++ value_rules v
+    ++ result_rules result v
 
 unfoldable pub returned : ℕ → CType → Option Found → Judged Typed
-returned at result v = by (return_rules at result v) (typed.Return (option_map (value_in (integer_of result)) v))
+returned at result v = by (return_rules at result v) (typed.Return (option_map (value_as result) v))
+
+-- free (7.20.3.2)
+unfoldable pub freed : Found → Judged Typed
+freed a = by (scalar_rules a.at (kind_of a) ++ breaks (not (is_pointer (kind_of a))) NotPointer a.at) (typed.Free (value a))
 
 -- printf (7.19.6.3)
 abbrev pub printed_pieces : ℕ → List Found → Option (List Piece) → Judged Typed
@@ -164,51 +205,56 @@ branch_of p = record { test = p.0; body = one p.1 }
 
 -- ---- variables (6.7)
 
-abbrev pub is_unbuilt_variable : TypeSpecifier → InitDeclarator → Bool
-is_unbuilt_variable t d = is_unbuilt t d.stars || nat_lt 0 (length d.sizes)
+abbrev pub sizes_of : InitDeclarator → List ℕ
+sizes_of d = map (λ n. n.value) d.sizes
 
-abbrev pub variable_rules : Scope → TypeSpecifier → InitDeclarator → List Fault
-variable_rules s t d =
-    breaks (is_unbuilt_variable t d) NotYet 0
-    ++ breaks (is_here s d.name.bytes) Redeclared d.name.at
-    ++ breaks (is_void (type_of t)) IncompleteType d.name.at
+abbrev pub variable_rules : List Struct → Scope → CType → InitDeclarator → List Fault
+variable_rules structs s kind d =
+    breaks (is_here s d.name.bytes) Redeclared d.name.at
+    ++ breaks (is_too_large structs kind (sizes_of d)) ArraySize d.name.at
+    ++ breaks (is_incomplete structs kind) IncompleteType d.name.at
 
-module _ (functions : Bytes → Option Signature) where
+module _ (functions : Bytes → Option Signature) (structs : List Struct) where
   abbrev pub condition : Scope → Expr → Judged Term
-  condition s e = of_part (judged functions s e) condition_of
+  condition s e = of_part (judged functions structs s e) condition_of
 
   abbrev pub values : Scope → List Expr → Judged (List Found)
-  values s es = together (judged_all functions s es)
+  values s es = together (judged_all functions structs s es)
 
   -- ---- simple statements
 
   abbrev pub expression_of : Scope → Seen → Judged Action
-  expression_of s x = expression_statement x.part (option_map (invoked functions s) x.called)
+  expression_of s x = expression_statement x.part (option_map (invoked functions structs s) x.called) x.allocated
 
   abbrev pub simple : Scope → SimpleStatement → Judged Action
-  simple s (simple_form.Expression e) = expression_of s (seen functions s e)
-  simple s (simple_form.Assign a at None e) = of_parts (judged functions s a) (right functions s e) assign
-  simple s (simple_form.Assign a at (Some o) e) = of_parts (judged functions s a) (judged functions s e) (compound o)
-  simple s (simple_form.Postfix a at how) = of_part (judged functions s a) (stepped how)
-  simple s (simple_form.Prefix at how a) = of_part (judged functions s a) (stepped how)
+  simple s (simple_form.Expression e) = expression_of s (seen functions structs s e)
+  simple s (simple_form.Assign a at None e) = of_parts (judged functions structs s a) (right functions structs s e) (assign structs)
+  simple s (simple_form.Assign a at (Some o) e) = of_parts (judged functions structs s a) (judged functions structs s e) (compound structs o)
+  simple s (simple_form.Postfix a at how) = of_part (judged functions structs s a) (stepped structs how)
+  simple s (simple_form.Prefix at how a) = of_part (judged functions structs s a) (stepped structs how)
 
   -- ---- declarations (6.7): a variable is in scope from its own initialiser on
 
   abbrev pub initial : Scope → Found → Option Expr → ℕ → Judged Action
   initial s v None number = by [] (action.Zero number)
-  initial s v (Some e) number = of_part (right functions s e) (assign v)
+  initial s v (Some e) number = of_part (right functions structs s e) (assign structs v)
 
-  abbrev pub variable : TypeSpecifier → InitDeclarator → Walk Action
-  variable t d s =
-      let inside = declare s d.name.bytes (type_of t) in
+  abbrev pub variable_walk : TypeSpecifier → InitDeclarator → Walk Action
+  variable_walk t d s =
+      let kind = type_of structs None t d.stars in
+      let object = object_type structs kind (sizes_of d) in
+      let inside = declare s d.name.bytes object in
       let number = length s.variables in
       record {
-        judged = after (variable_rules s t d) (initial inside (place d.name.at (type_of t) (term.Variable number)) d.value number);
+        judged = after (variable_rules structs s kind d) (initial inside (place d.name.at object (variable number)) d.value number);
         scope = inside;
       }
 
+  -- the specifier, and then the variables
   abbrev pub declaration : Declaration → Walk (List Action)
-  declaration d = walk_all (map (variable d.specifier) d.declarators)
+  declaration d s =
+      let variables = walk_all (map (variable_walk d.specifier) d.declarators) s in
+      record { judged = after (specifier_rules structs None d.specifier) variables.judged; scope = variables.scope }
 
   -- ---- the head of a for (6.8.5.3)
 
@@ -280,11 +326,11 @@ module _ (functions : Bytes → Option Signature) where
     statement_node (stmt.While at e w) looping = loop e w (λ c x. typed.While c (one x))
     statement_node (stmt.DoWhile at w e) looping = loop e w (λ c x. typed.DoWhile (one x) c)
     statement_node (stmt.For at i e n w) looping = scoped (for_loop i e n w)
-    statement_node (stmt.Return at e) looping = λ s. staying (of_part (perhaps (judged functions s) e) (returned at result)) s
+    statement_node (stmt.Return at e) looping = λ s. staying (of_part (perhaps (judged functions structs s) e) (returned at result)) s
     statement_node (stmt.Print at format es) looping = λ s. staying (of_part (values s es) (printed format)) s
     statement_node (stmt.Mark m) looping = staying (by [] typed.Mark)
     statement_node (stmt.Simple x) looping = λ s. staying (seen_as (λ a. typed.Actions (one a)) (simple s x)) s
-    statement_node (stmt.Free at e) looping = staying (refused NotYet 0)
+    statement_node (stmt.Free at e) looping = λ s. staying (of_part (judged functions structs s e) freed) s
     statement_node (stmt.Mpi c) looping = staying (refused NotYet 0)
 
     abbrev pub walked : Stmt → Node

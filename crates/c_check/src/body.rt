@@ -12,12 +12,12 @@ mod conditional;
 use crate::expression::{both, gather};
 use crate::form::{block_of, do_of, for_of, while_of};
 use crate::single::{
-    declaration_statement, loop_step, loop_test, loop_word, print, return_statement,
+    declaration_statement, free, loop_step, loop_test, loop_word, print, return_statement,
     simple_statement, start,
 };
 use crate::statement::condition;
-use c_kernel::CType;
 use c_kernel::program::{Expr as Term, Stmt as Typed};
+use c_kernel::{CType, Struct};
 use c_rules::fault::{Fault, rule};
 use c_rules::scope::Scope;
 use c_rules::signature::Signature;
@@ -33,16 +33,26 @@ pub fn body_items(
     alloc: Global,
     faults: &mut Vec<Fault>,
     functions: &IndexMap<Vec<u8>, Signature>,
+    structs: &[Struct],
     scope: &mut Scope,
-    result_type: &CType,
+    result_type: CType,
     items: &[BlockItem<Stmt>],
 ) -> Result<Option<Items<Typed>>, AllocError>
-    ensures found { IfOk result (λ found. found ≡ (walk_all (map (body_item (called functions.now.entries) result_type.now) items.now) (scope_of scope.old)).judged.found) }
-    ensures faults { OnOk result (faults.new.items ≡ faults.old.items ++ (walk_all (map (body_item (called functions.now.entries) result_type.now) items.now) (scope_of scope.old)).judged.faults) }
-    ensures scope { OnOk result (scope_of scope.new ≡ (walk_all (map (body_item (called functions.now.entries) result_type.now) items.now) (scope_of scope.old)).scope) }
+    ensures found { IfOk result (λ found. found ≡ (walk_all (map (body_item (called functions.now.entries) structs.now result_type) items.now) (scope_of scope.old)).judged.found) }
+    ensures faults { OnOk result (faults.new.items ≡ faults.old.items ++ (walk_all (map (body_item (called functions.now.entries) structs.now result_type) items.now) (scope_of scope.old)).judged.faults) }
+    ensures scope { OnOk result (scope_of scope.new ≡ (walk_all (map (body_item (called functions.now.entries) structs.now result_type) items.now) (scope_of scope.old)).scope) }
     ensures around { OnOk result ((scope_of scope.new).around ≡ (scope_of scope.old).around) }
 {
-    block_items(alloc, faults, functions, scope, result_type, false, items)
+    block_items(
+        alloc,
+        faults,
+        functions,
+        structs,
+        scope,
+        result_type,
+        false,
+        items,
+    )
 }
 
 // What a statement is found to be, in a loop or in none. Its broken rules are noted, and its variables come into scope.
@@ -52,14 +62,15 @@ fn statement(
     alloc: Global,
     faults: &mut Vec<Fault>,
     functions: &IndexMap<Vec<u8>, Signature>,
+    structs: &[Struct],
     scope: &mut Scope,
-    result_type: &CType,
+    result_type: CType,
     looping: bool,
     s: &Stmt,
 ) -> Result<Option<Typed>, AllocError>
-    ensures found { IfOk result (λ found. found ≡ (walked (called functions.now.entries) result_type.now s.now looping (scope_of scope.old)).judged.found) }
-    ensures faults { OnOk result (faults.new.items ≡ faults.old.items ++ (walked (called functions.now.entries) result_type.now s.now looping (scope_of scope.old)).judged.faults) }
-    ensures scope { OnOk result (scope_of scope.new ≡ (walked (called functions.now.entries) result_type.now s.now looping (scope_of scope.old)).scope) }
+    ensures found { IfOk result (λ found. found ≡ (walked (called functions.now.entries) structs.now result_type s.now looping (scope_of scope.old)).judged.found) }
+    ensures faults { OnOk result (faults.new.items ≡ faults.old.items ++ (walked (called functions.now.entries) structs.now result_type s.now looping (scope_of scope.old)).judged.faults) }
+    ensures scope { OnOk result (scope_of scope.new ≡ (walked (called functions.now.entries) structs.now result_type s.now looping (scope_of scope.old)).scope) }
     ensures around { OnOk result ((scope_of scope.new).around ≡ (scope_of scope.old).around) }
 {
     match s {
@@ -67,7 +78,16 @@ fn statement(
         Stmt::Break(at) => loop_word(faults, looping, *at, Typed::Break),
         Stmt::Continue(at) => loop_word(faults, looping, *at, Typed::Continue),
         Stmt::Block(b) => {
-            let steps = block(alloc, faults, functions, scope, result_type, looping, b)?;
+            let steps = block(
+                alloc,
+                faults,
+                functions,
+                structs,
+                scope,
+                result_type,
+                looping,
+                b,
+            )?;
             Ok(block_of(steps))
         }
         Stmt::If {
@@ -80,6 +100,7 @@ fn statement(
             alloc,
             faults,
             functions,
+            structs,
             scope,
             result_type,
             looping,
@@ -93,6 +114,7 @@ fn statement(
                 alloc,
                 faults,
                 functions,
+                structs,
                 scope,
                 result_type,
                 true,
@@ -106,6 +128,7 @@ fn statement(
                 alloc,
                 faults,
                 functions,
+                structs,
                 scope,
                 result_type,
                 true,
@@ -124,6 +147,7 @@ fn statement(
             alloc,
             faults,
             functions,
+            structs,
             scope,
             result_type,
             start,
@@ -132,16 +156,26 @@ fn statement(
             body,
         ),
         Stmt::Return { at, value } => {
-            return_statement(alloc, faults, functions, scope, result_type, *at, value)
+            return_statement(
+                alloc,
+                faults,
+                functions,
+                structs,
+                scope,
+                result_type,
+                *at,
+                value,
+            )
         }
         Stmt::Print {
             at: _,
             format,
             arguments,
-        } => print(alloc, faults, functions, scope, format, arguments),
+        } => print(alloc, faults, functions, structs, scope, format, arguments),
         Stmt::Mark(_) => Ok(Some(Typed::Mark)),
-        Stmt::Simple(x) => simple_statement(alloc, faults, functions, scope, x),
-        Stmt::Free { .. } | Stmt::Mpi(_) => {
+        Stmt::Simple(x) => simple_statement(alloc, faults, functions, structs, scope, x),
+        Stmt::Free { at: _, pointer } => free(alloc, faults, functions, structs, scope, pointer),
+        Stmt::Mpi(_) => {
             rule(faults, true, Kind::NotYet, 0)?;
             Ok(None)
         }
@@ -154,20 +188,32 @@ fn block_item(
     alloc: Global,
     faults: &mut Vec<Fault>,
     functions: &IndexMap<Vec<u8>, Signature>,
+    structs: &[Struct],
     scope: &mut Scope,
-    result_type: &CType,
+    result_type: CType,
     looping: bool,
     item: &BlockItem<Stmt>,
 ) -> Result<Option<Typed>, AllocError>
-    ensures found { IfOk result (λ found. found ≡ (walked_item (called functions.now.entries) result_type.now looping item.now (scope_of scope.old)).judged.found) }
-    ensures faults { OnOk result (faults.new.items ≡ faults.old.items ++ (walked_item (called functions.now.entries) result_type.now looping item.now (scope_of scope.old)).judged.faults) }
-    ensures scope { OnOk result (scope_of scope.new ≡ (walked_item (called functions.now.entries) result_type.now looping item.now (scope_of scope.old)).scope) }
+    ensures found { IfOk result (λ found. found ≡ (walked_item (called functions.now.entries) structs.now result_type looping item.now (scope_of scope.old)).judged.found) }
+    ensures faults { OnOk result (faults.new.items ≡ faults.old.items ++ (walked_item (called functions.now.entries) structs.now result_type looping item.now (scope_of scope.old)).judged.faults) }
+    ensures scope { OnOk result (scope_of scope.new ≡ (walked_item (called functions.now.entries) structs.now result_type looping item.now (scope_of scope.old)).scope) }
     ensures around { OnOk result ((scope_of scope.new).around ≡ (scope_of scope.old).around) }
 {
     match item {
-        BlockItem::Declaration(d) => declaration_statement(alloc, faults, functions, scope, d),
+        BlockItem::Declaration(d) => declaration_statement(
+            alloc, faults, functions, structs, scope, d,
+        ),
         BlockItem::Statement(s) => {
-            statement(alloc, faults, functions, scope, result_type, looping, s)
+            statement(
+                alloc,
+                faults,
+                functions,
+                structs,
+                scope,
+                result_type,
+                looping,
+                s,
+            )
         }
     }
 }
@@ -179,19 +225,29 @@ fn block_items(
     alloc: Global,
     faults: &mut Vec<Fault>,
     functions: &IndexMap<Vec<u8>, Signature>,
+    structs: &[Struct],
     scope: &mut Scope,
-    result_type: &CType,
+    result_type: CType,
     looping: bool,
     items: &[BlockItem<Stmt>],
 ) -> Result<Option<Items<Typed>>, AllocError>
-    ensures found { IfOk result (λ found. found ≡ (walked_items (called functions.now.entries) result_type.now looping items.now (scope_of scope.old)).judged.found) }
-    ensures faults { OnOk result (faults.new.items ≡ faults.old.items ++ (walked_items (called functions.now.entries) result_type.now looping items.now (scope_of scope.old)).judged.faults) }
-    ensures scope { OnOk result (scope_of scope.new ≡ (walked_items (called functions.now.entries) result_type.now looping items.now (scope_of scope.old)).scope) }
+    ensures found { IfOk result (λ found. found ≡ (walked_items (called functions.now.entries) structs.now result_type looping items.now (scope_of scope.old)).judged.found) }
+    ensures faults { OnOk result (faults.new.items ≡ faults.old.items ++ (walked_items (called functions.now.entries) structs.now result_type looping items.now (scope_of scope.old)).judged.faults) }
+    ensures scope { OnOk result (scope_of scope.new ≡ (walked_items (called functions.now.entries) structs.now result_type looping items.now (scope_of scope.old)).scope) }
     ensures around { OnOk result ((scope_of scope.new).around ≡ (scope_of scope.old).around) }
 {
     let mut found = Some(Items::new(alloc));
     for item in items {
-        let one = block_item(alloc, faults, functions, scope, result_type, looping, item)?;
+        let one = block_item(
+            alloc,
+            faults,
+            functions,
+            structs,
+            scope,
+            result_type,
+            looping,
+            item,
+        )?;
         found = gather(found, one)?;
     }
     Ok(found)
@@ -203,14 +259,15 @@ fn block(
     alloc: Global,
     faults: &mut Vec<Fault>,
     functions: &IndexMap<Vec<u8>, Signature>,
+    structs: &[Struct],
     scope: &mut Scope,
-    result_type: &CType,
+    result_type: CType,
     looping: bool,
     b: &Block<Stmt>,
 ) -> Result<Option<Items<Typed>>, AllocError>
-    ensures found { IfOk result (λ found. found ≡ (walk.scoped (walked_items (called functions.now.entries) result_type.now looping b.now.items) (scope_of scope.old)).judged.found) }
-    ensures faults { OnOk result (faults.new.items ≡ faults.old.items ++ (walk.scoped (walked_items (called functions.now.entries) result_type.now looping b.now.items) (scope_of scope.old)).judged.faults) }
-    ensures scope { OnOk result (scope_of scope.new ≡ (walk.scoped (walked_items (called functions.now.entries) result_type.now looping b.now.items) (scope_of scope.old)).scope) }
+    ensures found { IfOk result (λ found. found ≡ (walk.scoped (walked_items (called functions.now.entries) structs.now result_type looping b.now.items) (scope_of scope.old)).judged.found) }
+    ensures faults { OnOk result (faults.new.items ≡ faults.old.items ++ (walk.scoped (walked_items (called functions.now.entries) structs.now result_type looping b.now.items) (scope_of scope.old)).judged.faults) }
+    ensures scope { OnOk result (scope_of scope.new ≡ (walk.scoped (walked_items (called functions.now.entries) structs.now result_type looping b.now.items) (scope_of scope.old)).scope) }
     ensures around { OnOk result ((scope_of scope.new).around ≡ (scope_of scope.old).around) }
 {
     scope.enter(alloc)?;
@@ -218,6 +275,7 @@ fn block(
         alloc,
         faults,
         functions,
+        structs,
         scope,
         result_type,
         looping,
@@ -234,19 +292,29 @@ fn guarded(
     alloc: Global,
     faults: &mut Vec<Fault>,
     functions: &IndexMap<Vec<u8>, Signature>,
+    structs: &[Struct],
     scope: &mut Scope,
-    result_type: &CType,
+    result_type: CType,
     looping: bool,
     body: &Stmt,
     test: &Expr,
 ) -> Result<Option<(Term, Typed)>, AllocError>
-    ensures found { IfOk result (λ found. found ≡ (walked_guarded (called functions.now.entries) result_type.now looping test.now body.now (scope_of scope.old)).judged.found) }
-    ensures faults { OnOk result (faults.new.items ≡ faults.old.items ++ (walked_guarded (called functions.now.entries) result_type.now looping test.now body.now (scope_of scope.old)).judged.faults) }
-    ensures scope { OnOk result (scope_of scope.new ≡ (walked_guarded (called functions.now.entries) result_type.now looping test.now body.now (scope_of scope.old)).scope) }
+    ensures found { IfOk result (λ found. found ≡ (walked_guarded (called functions.now.entries) structs.now result_type looping test.now body.now (scope_of scope.old)).judged.found) }
+    ensures faults { OnOk result (faults.new.items ≡ faults.old.items ++ (walked_guarded (called functions.now.entries) structs.now result_type looping test.now body.now (scope_of scope.old)).judged.faults) }
+    ensures scope { OnOk result (scope_of scope.new ≡ (walked_guarded (called functions.now.entries) structs.now result_type looping test.now body.now (scope_of scope.old)).scope) }
     ensures around { OnOk result ((scope_of scope.new).around ≡ (scope_of scope.old).around) }
 {
-    let test = condition(alloc, faults, functions, scope, test)?;
-    let body = statement(alloc, faults, functions, scope, result_type, looping, body)?;
+    let test = condition(alloc, faults, functions, structs, scope, test)?;
+    let body = statement(
+        alloc,
+        faults,
+        functions,
+        structs,
+        scope,
+        result_type,
+        looping,
+        body,
+    )?;
     Ok(both(test, body))
 }
 
@@ -256,16 +324,17 @@ fn for_loop(
     alloc: Global,
     faults: &mut Vec<Fault>,
     functions: &IndexMap<Vec<u8>, Signature>,
+    structs: &[Struct],
     scope: &mut Scope,
-    result_type: &CType,
+    result_type: CType,
     start: &Option<ForStart>,
     test: &Option<Expr>,
     step: &Option<SimpleStatement>,
     body: &Boxed<Stmt>,
 ) -> Result<Option<Typed>, AllocError>
-    ensures found { IfOk result (λ found. found ≡ (walk.scoped (walked_for (called functions.now.entries) result_type.now start.now test.now step.now body.now) (scope_of scope.old)).judged.found) }
-    ensures faults { OnOk result (faults.new.items ≡ faults.old.items ++ (walk.scoped (walked_for (called functions.now.entries) result_type.now start.now test.now step.now body.now) (scope_of scope.old)).judged.faults) }
-    ensures scope { OnOk result (scope_of scope.new ≡ (walk.scoped (walked_for (called functions.now.entries) result_type.now start.now test.now step.now body.now) (scope_of scope.old)).scope) }
+    ensures found { IfOk result (λ found. found ≡ (walk.scoped (walked_for (called functions.now.entries) structs.now result_type start.now test.now step.now body.now) (scope_of scope.old)).judged.found) }
+    ensures faults { OnOk result (faults.new.items ≡ faults.old.items ++ (walk.scoped (walked_for (called functions.now.entries) structs.now result_type start.now test.now step.now body.now) (scope_of scope.old)).judged.faults) }
+    ensures scope { OnOk result (scope_of scope.new ≡ (walk.scoped (walked_for (called functions.now.entries) structs.now result_type start.now test.now step.now body.now) (scope_of scope.old)).scope) }
     ensures around { OnOk result ((scope_of scope.new).around ≡ (scope_of scope.old).around) }
 {
     scope.enter(alloc)?;
@@ -273,6 +342,7 @@ fn for_loop(
         alloc,
         faults,
         functions,
+        structs,
         scope,
         result_type,
         start,
@@ -291,21 +361,31 @@ fn for_parts(
     alloc: Global,
     faults: &mut Vec<Fault>,
     functions: &IndexMap<Vec<u8>, Signature>,
+    structs: &[Struct],
     scope: &mut Scope,
-    result_type: &CType,
+    result_type: CType,
     first: &Option<ForStart>,
     test: &Option<Expr>,
     step: &Option<SimpleStatement>,
     body: &Stmt,
 ) -> Result<Option<Typed>, AllocError>
-    ensures found { IfOk result (λ found. found ≡ (walked_for (called functions.now.entries) result_type.now first.now test.now step.now body.now (scope_of scope.old)).judged.found) }
-    ensures faults { OnOk result (faults.new.items ≡ faults.old.items ++ (walked_for (called functions.now.entries) result_type.now first.now test.now step.now body.now (scope_of scope.old)).judged.faults) }
-    ensures scope { OnOk result (scope_of scope.new ≡ (walked_for (called functions.now.entries) result_type.now first.now test.now step.now body.now (scope_of scope.old)).scope) }
+    ensures found { IfOk result (λ found. found ≡ (walked_for (called functions.now.entries) structs.now result_type first.now test.now step.now body.now (scope_of scope.old)).judged.found) }
+    ensures faults { OnOk result (faults.new.items ≡ faults.old.items ++ (walked_for (called functions.now.entries) structs.now result_type first.now test.now step.now body.now (scope_of scope.old)).judged.faults) }
+    ensures scope { OnOk result (scope_of scope.new ≡ (walked_for (called functions.now.entries) structs.now result_type first.now test.now step.now body.now (scope_of scope.old)).scope) }
     ensures around { OnOk result ((scope_of scope.new).around ≡ (scope_of scope.old).around) }
 {
-    let first = start(alloc, faults, functions, scope, first)?;
-    let test = loop_test(alloc, faults, functions, scope, test)?;
-    let step = loop_step(alloc, faults, functions, scope, step)?;
-    let body = statement(alloc, faults, functions, scope, result_type, true, body)?;
+    let first = start(alloc, faults, functions, structs, scope, first)?;
+    let test = loop_test(alloc, faults, functions, structs, scope, test)?;
+    let step = loop_step(alloc, faults, functions, structs, scope, step)?;
+    let body = statement(
+        alloc,
+        faults,
+        functions,
+        structs,
+        scope,
+        result_type,
+        true,
+        body,
+    )?;
     for_of(alloc, first, test, step, body)
 }

@@ -9,20 +9,19 @@ ghost use Rattle.c_check.specs.Expression.{judged};
 ghost use Rattle.c_check.specs.Expression as walk;
 ghost use Rattle.c_rules.specs.Rules as rules;
 
-use c_kernel::program::{
-    Arithmetic, BinaryOperator, Comparison, Direction, Expr as Term, UnaryOperator,
-};
-use c_kernel::{CType, IntegerType};
+use c_kernel::program::{Arithmetic, BinaryOperator, Comparison, Direction, UnaryOperator};
+use c_kernel::{CType, IntegerType, Struct};
 use c_rules::fault::{Fault, rule};
 use c_rules::found::{Found, Invocation, Run};
 use c_rules::rules::{
-    arithmetic, begin, call, cast, choice, closed, comparison, constant, logical, negation, shift,
-    size_of, unary,
+    address, arithmetic, arrow, begin, call, cast, choice, closed, comparison, constant,
+    dereference, dot, index, literal, logical, minus, negation, null, place, plus, shift, size_of,
+    unary, variable,
 };
 use c_rules::scope::{Entity, Scope};
 use c_rules::signature::{Signature, function};
-use c_rules::types::{is_unbuilt, type_of};
-use c_tree::tree::{Expr, Link, Name, TypeName};
+use c_rules::types::{note_specifier, type_of};
+use c_tree::tree::{Access, Constant, Expr, Link, MemberName, Name, TypeName};
 use c_tree::{Kind, Operator};
 use indexmap::IndexMap;
 use sqlite_items::{Boxed, Items};
@@ -35,93 +34,175 @@ pub fn expression(
     alloc: Global,
     faults: &mut Vec<Fault>,
     functions: &IndexMap<Vec<u8>, Signature>,
+    structs: &[Struct],
     scope: &Scope,
     e: &Expr,
 ) -> Result<Option<Found>, AllocError>
-    ensures found { IfOk result (λ found. found ≡ (judged (called functions.now.entries) (scope_of scope.now) e.now).found) }
-    ensures faults { OnOk result (faults.new.items ≡ faults.old.items ++ (judged (called functions.now.entries) (scope_of scope.now) e.now).faults) }
+    ensures found { IfOk result (λ found. found ≡ (judged (called functions.now.entries) structs.now (scope_of scope.now) e.now).found) }
+    ensures faults { OnOk result (faults.new.items ≡ faults.old.items ++ (judged (called functions.now.entries) structs.now (scope_of scope.now) e.now).faults) }
 {
     match e {
-        Expr::Number(n) => Ok(Some(constant(alloc, n.at, n.value, width(n.long))?)),
+        Expr::Number(n) => Ok(Some(literal(alloc, n.at, n.value, width(n.long))?)),
         Expr::Character { at, value } => Ok(Some(constant(alloc, *at, *value, IntegerType::Int)?)),
+        Expr::Constant { at, constant } => constant_word(alloc, faults, *at, *constant),
         Expr::Name(n) => name(alloc, faults, scope, n),
         Expr::Call { name, arguments } => {
-            misplaced(alloc, faults, functions, scope, name, arguments)
+            misplaced(alloc, faults, functions, structs, scope, name, arguments)
         }
-        Expr::SizeOf { at, name } => match named_type(faults, name)? {
-            None => Ok(None),
-            Some(kind) => size_of(alloc, faults, *at, &kind),
-        },
+        Expr::Malloc { at, size } => {
+            no_part(alloc, faults, functions, structs, scope, *at, size.get())
+        }
+        Expr::SizeOf { at, name } => sized(alloc, faults, structs, *at, name),
         Expr::Group { at, inner } => {
-            let a = expression(alloc, faults, functions, scope, inner.get())?;
+            let a = expression(alloc, faults, functions, structs, scope, inner.get())?;
             Ok(group(*at, a))
         }
         Expr::Cast { at, name, operand } => {
-            whole_cast(alloc, faults, functions, scope, *at, name, operand)
+            whole_cast(
+                alloc,
+                faults,
+                functions,
+                structs,
+                scope,
+                *at,
+                name,
+                operand.get(),
+            )
         }
         Expr::Prefix {
             at,
             operator,
             operand,
-        } => whole_prefix(alloc, faults, functions, scope, *at, *operator, operand),
+        } => {
+            let a = expression(alloc, faults, functions, structs, scope, operand.get())?;
+            prefix(alloc, faults, structs, *at, *operator, a)
+        }
+        Expr::Index { base, at: _, index } => {
+            whole_index(
+                alloc,
+                faults,
+                functions,
+                structs,
+                scope,
+                base.get(),
+                index.get(),
+            )
+        }
+        Expr::Member {
+            base,
+            at: _,
+            access,
+            name,
+        } => {
+            let a = expression(alloc, faults, functions, structs, scope, base.get())?;
+            member_of(alloc, faults, structs, a, *access, name)
+        }
         Expr::Chain { first, rest } => {
-            let a = expression(alloc, faults, functions, scope, first.get())?;
-            let a = begun(alloc, a)?;
-            let run = chain(alloc, faults, functions, scope, a, rest)?;
-            ended(alloc, run)
+            whole_chain(alloc, faults, functions, structs, scope, first.get(), rest)
         }
         Expr::Choice {
             test,
             then,
             otherwise,
         } => {
-            let c = expression(alloc, faults, functions, scope, test.get())?;
-            let a = expression(alloc, faults, functions, scope, then.get())?;
-            let b = expression(alloc, faults, functions, scope, otherwise.get())?;
+            let c = expression(alloc, faults, functions, structs, scope, test.get())?;
+            let a = expression(alloc, faults, functions, structs, scope, then.get())?;
+            let b = expression(alloc, faults, functions, structs, scope, otherwise.get())?;
             choice_of(alloc, faults, c, a, b)
         }
-        Expr::Constant { .. } | Expr::Malloc { .. } | Expr::Index { .. } | Expr::Member { .. } => {
-            rule(faults, true, Kind::NotYet, 0)?;
+    }
+}
+
+// A `malloc` that is a part.
+#[cycle(walk)]
+#[tactic(auto, using(std::proofs::Common::append_assoc))]
+fn no_part(
+    alloc: Global,
+    faults: &mut Vec<Fault>,
+    functions: &IndexMap<Vec<u8>, Signature>,
+    structs: &[Struct],
+    scope: &Scope,
+    at: u32,
+    size: &Expr,
+) -> Result<Option<Found>, AllocError>
+    ensures found { IfOk result (λ found. found ≡ (walk.no_part (called functions.now.entries) structs.now (scope_of scope.now) at (judged (called functions.now.entries) structs.now (scope_of scope.now) size.now)).found) }
+    ensures faults { OnOk result (faults.new.items ≡ faults.old.items ++ (walk.no_part (called functions.now.entries) structs.now (scope_of scope.now) at (judged (called functions.now.entries) structs.now (scope_of scope.now) size.now)).faults) }
+{
+    match expression(alloc, faults, functions, structs, scope, size)? {
+        None => Ok(None),
+        Some(_) => {
+            rule(faults, true, Kind::MallocPlace, at)?;
             Ok(None)
         }
     }
 }
 
+// A cast.
 #[cycle(walk)]
 #[tactic(auto, using(std::proofs::Common::append_assoc))]
 fn whole_cast(
     alloc: Global,
     faults: &mut Vec<Fault>,
     functions: &IndexMap<Vec<u8>, Signature>,
+    structs: &[Struct],
     scope: &Scope,
     at: u32,
     name: &TypeName,
-    operand: &Boxed<Expr>,
+    operand: &Expr,
 ) -> Result<Option<Found>, AllocError>
-    ensures found { IfOk result (λ found. found ≡ (walk.whole_cast at (walk.named_type name.now) (judged (called functions.now.entries) (scope_of scope.now) operand.now)).found) }
-    ensures faults { OnOk result (faults.new.items ≡ faults.old.items ++ (walk.whole_cast at (walk.named_type name.now) (judged (called functions.now.entries) (scope_of scope.now) operand.now)).faults) }
+    ensures found { IfOk result (λ found. found ≡ (walk.whole_cast at (walk.named_type structs.now name.now) (judged (called functions.now.entries) structs.now (scope_of scope.now) operand.now)).found) }
+    ensures faults { OnOk result (faults.new.items ≡ faults.old.items ++ (walk.whole_cast at (walk.named_type structs.now name.now) (judged (called functions.now.entries) structs.now (scope_of scope.now) operand.now)).faults) }
 {
-    let kind = named_type(faults, name)?;
-    let a = expression(alloc, faults, functions, scope, operand.get())?;
-    cast_of(alloc, faults, at, kind, a)
+    let kind = named_type(faults, structs, name)?;
+    let a = expression(alloc, faults, functions, structs, scope, operand)?;
+    match both(kind, a) {
+        None => Ok(None),
+        Some((kind, a)) => cast(alloc, faults, at, kind, a),
+    }
 }
 
+// `a[i]`.
 #[cycle(walk)]
 #[tactic(auto, using(std::proofs::Common::append_assoc))]
-fn whole_prefix(
+fn whole_index(
     alloc: Global,
     faults: &mut Vec<Fault>,
     functions: &IndexMap<Vec<u8>, Signature>,
+    structs: &[Struct],
     scope: &Scope,
-    at: u32,
-    operator: Operator,
-    operand: &Boxed<Expr>,
+    base: &Expr,
+    at: &Expr,
 ) -> Result<Option<Found>, AllocError>
-    ensures found { IfOk result (λ found. found ≡ (walk.whole_prefix at operator (judged (called functions.now.entries) (scope_of scope.now) operand.now)).found) }
-    ensures faults { OnOk result (faults.new.items ≡ faults.old.items ++ (walk.whole_prefix at operator (judged (called functions.now.entries) (scope_of scope.now) operand.now)).faults) }
+    ensures found { IfOk result (λ found. found ≡ (walk.whole_index structs.now (judged (called functions.now.entries) structs.now (scope_of scope.now) base.now) (judged (called functions.now.entries) structs.now (scope_of scope.now) at.now)).found) }
+    ensures faults { OnOk result (faults.new.items ≡ faults.old.items ++ (walk.whole_index structs.now (judged (called functions.now.entries) structs.now (scope_of scope.now) base.now) (judged (called functions.now.entries) structs.now (scope_of scope.now) at.now)).faults) }
 {
-    let a = expression(alloc, faults, functions, scope, operand.get())?;
-    prefix(alloc, faults, at, operator, a)
+    let a = expression(alloc, faults, functions, structs, scope, base)?;
+    let i = expression(alloc, faults, functions, structs, scope, at)?;
+    match both(a, i) {
+        None => Ok(None),
+        Some((a, i)) => index(alloc, faults, structs, a, i),
+    }
+}
+
+// Operators with their operands.
+#[cycle(walk)]
+#[tactic(auto, using(std::proofs::Common::append_assoc))]
+fn whole_chain(
+    alloc: Global,
+    faults: &mut Vec<Fault>,
+    functions: &IndexMap<Vec<u8>, Signature>,
+    structs: &[Struct],
+    scope: &Scope,
+    first: &Expr,
+    rest: &Items<Link<Expr>>,
+) -> Result<Option<Found>, AllocError>
+    ensures found { IfOk result (λ found. found ≡ (walk.whole_chain structs.now (judged (called functions.now.entries) structs.now (scope_of scope.now) first.now) (walk.judged_links (called functions.now.entries) structs.now (scope_of scope.now) rest.now)).found) }
+    ensures faults { OnOk result (faults.new.items ≡ faults.old.items ++ (walk.whole_chain structs.now (judged (called functions.now.entries) structs.now (scope_of scope.now) first.now) (walk.judged_links (called functions.now.entries) structs.now (scope_of scope.now) rest.now)).faults) }
+{
+    let a = expression(alloc, faults, functions, structs, scope, first)?;
+    let a = begun(alloc, a)?;
+    let run = chain(alloc, faults, functions, structs, scope, a, rest)?;
+    ended(alloc, run)
 }
 
 // A chain goes on from the left.
@@ -131,17 +212,18 @@ fn chain(
     alloc: Global,
     faults: &mut Vec<Fault>,
     functions: &IndexMap<Vec<u8>, Signature>,
+    structs: &[Struct],
     scope: &Scope,
     first: Option<Run>,
     links: &Items<Link<Expr>>,
 ) -> Result<Option<Run>, AllocError>
-    ensures found { IfOk result (λ found. found ≡ (walk.chain first (walk.judged_links (called functions.now.entries) (scope_of scope.now) links.now)).found) }
-    ensures faults { OnOk result (faults.new.items ≡ faults.old.items ++ (walk.chain first (walk.judged_links (called functions.now.entries) (scope_of scope.now) links.now)).faults) }
+    ensures found { IfOk result (λ found. found ≡ (walk.chain structs.now first (walk.judged_links (called functions.now.entries) structs.now (scope_of scope.now) links.now)).found) }
+    ensures faults { OnOk result (faults.new.items ≡ faults.old.items ++ (walk.chain structs.now first (walk.judged_links (called functions.now.entries) structs.now (scope_of scope.now) links.now)).faults) }
 {
     let mut run = first;
     for x in links.as_slice() {
-        let operand = expression(alloc, faults, functions, scope, &x.operand)?;
-        run = next(alloc, faults, x.operator, run, operand)?;
+        let operand = expression(alloc, faults, functions, structs, scope, &x.operand)?;
+        run = next(alloc, faults, structs, x.operator, run, operand)?;
     }
     Ok(run)
 }
@@ -153,15 +235,16 @@ pub fn expressions(
     alloc: Global,
     faults: &mut Vec<Fault>,
     functions: &IndexMap<Vec<u8>, Signature>,
+    structs: &[Struct],
     scope: &Scope,
     es: &[Expr],
 ) -> Result<Option<Items<Found>>, AllocError>
-    ensures found { IfOk result (λ found. found ≡ (nodes.together (walk.judged_all (called functions.now.entries) (scope_of scope.now) es.now)).found) }
-    ensures faults { OnOk result (faults.new.items ≡ faults.old.items ++ (nodes.together (walk.judged_all (called functions.now.entries) (scope_of scope.now) es.now)).faults) }
+    ensures found { IfOk result (λ found. found ≡ (nodes.together (walk.judged_all (called functions.now.entries) structs.now (scope_of scope.now) es.now)).found) }
+    ensures faults { OnOk result (faults.new.items ≡ faults.old.items ++ (nodes.together (walk.judged_all (called functions.now.entries) structs.now (scope_of scope.now) es.now)).faults) }
 {
     let mut found = Some(Items::new(alloc));
     for e in es {
-        let one = expression(alloc, faults, functions, scope, e)?;
+        let one = expression(alloc, faults, functions, structs, scope, e)?;
         found = gather(found, one)?;
     }
     Ok(found)
@@ -174,14 +257,17 @@ fn misplaced(
     alloc: Global,
     faults: &mut Vec<Fault>,
     functions: &IndexMap<Vec<u8>, Signature>,
+    structs: &[Struct],
     scope: &Scope,
     name: &Name,
     arguments: &Items<Expr>,
 ) -> Result<Option<Found>, AllocError>
-    ensures found { IfOk result (λ found. found ≡ (walk.misplaced (called functions.now.entries) (scope_of scope.now) (walk.call_of (called functions.now.entries) (scope_of scope.now) name.now.at name.now arguments.now)).found) }
-    ensures faults { OnOk result (faults.new.items ≡ faults.old.items ++ (walk.misplaced (called functions.now.entries) (scope_of scope.now) (walk.call_of (called functions.now.entries) (scope_of scope.now) name.now.at name.now arguments.now)).faults) }
+    ensures found { IfOk result (λ found. found ≡ (walk.misplaced (called functions.now.entries) structs.now (scope_of scope.now) (walk.call_of (called functions.now.entries) structs.now (scope_of scope.now) name.now.at name.now arguments.now)).found) }
+    ensures faults { OnOk result (faults.new.items ≡ faults.old.items ++ (walk.misplaced (called functions.now.entries) structs.now (scope_of scope.now) (walk.call_of (called functions.now.entries) structs.now (scope_of scope.now) name.now.at name.now arguments.now)).faults) }
 {
-    let found = invoked(alloc, faults, functions, scope, name.at, name, arguments)?;
+    let found = invoked(
+        alloc, faults, functions, structs, scope, name.at, name, arguments,
+    )?;
     match found {
         None => Ok(None),
         Some(_) => {
@@ -198,16 +284,24 @@ pub fn invoked(
     alloc: Global,
     faults: &mut Vec<Fault>,
     functions: &IndexMap<Vec<u8>, Signature>,
+    structs: &[Struct],
     scope: &Scope,
     at: u32,
     name: &Name,
     arguments: &Items<Expr>,
 ) -> Result<Option<Invocation>, AllocError>
-    ensures found { IfOk result (λ found. found ≡ (walk.invoked (called functions.now.entries) (scope_of scope.now) (walk.call_of (called functions.now.entries) (scope_of scope.now) at name.now arguments.now)).found) }
-    ensures faults { OnOk result (faults.new.items ≡ faults.old.items ++ (walk.invoked (called functions.now.entries) (scope_of scope.now) (walk.call_of (called functions.now.entries) (scope_of scope.now) at name.now arguments.now)).faults) }
+    ensures found { IfOk result (λ found. found ≡ (walk.invoked (called functions.now.entries) structs.now (scope_of scope.now) (walk.call_of (called functions.now.entries) structs.now (scope_of scope.now) at name.now arguments.now)).found) }
+    ensures faults { OnOk result (faults.new.items ≡ faults.old.items ++ (walk.invoked (called functions.now.entries) structs.now (scope_of scope.now) (walk.call_of (called functions.now.entries) structs.now (scope_of scope.now) at name.now arguments.now)).faults) }
 {
     let f = callee(faults, functions, scope, name)?;
-    let values = expressions(alloc, faults, functions, scope, arguments.as_slice())?;
+    let values = expressions(
+        alloc,
+        faults,
+        functions,
+        structs,
+        scope,
+        arguments.as_slice(),
+    )?;
     match f {
         None => Ok(None),
         Some(f) => match values {
@@ -233,6 +327,24 @@ fn width(long: bool) -> IntegerType
     }
 }
 
+fn constant_word(
+    alloc: Global,
+    faults: &mut Vec<Fault>,
+    at: u32,
+    word: Constant,
+) -> Result<Option<Found>, AllocError>
+    ensures found { IfOk result (λ found. found ≡ (rules.constant_word at word).found) }
+    ensures faults { OnOk result (faults.new.items ≡ faults.old.items ++ (rules.constant_word at word).faults) }
+{
+    match word {
+        Constant::Null => Ok(Some(null(alloc, at)?)),
+        Constant::AnySource | Constant::AnyTag | Constant::ProcNull => {
+            rule(faults, true, Kind::NotYet, 0)?;
+            Ok(None)
+        }
+    }
+}
+
 fn name(
     alloc: Global,
     faults: &mut Vec<Fault>,
@@ -243,12 +355,10 @@ fn name(
     ensures faults { OnOk result (faults.new.items ≡ faults.old.items ++ (rules.name name.now.at (visible (scope_of scope.now) name.now.bytes)).faults) }
 {
     match scope.find(name.bytes.as_slice()) {
-        Some(Entity::Variable(v)) => Ok(Some(Found {
-            at: name.at,
-            kind: v.kind.clone()?,
-            place: true,
-            term: Boxed::new(alloc, Term::Variable(v.number))?,
-        })),
+        Some(Entity::Variable(v)) => {
+            let found = Boxed::new(alloc, variable(alloc, v.number))?;
+            Ok(Some(place(name.at, v.kind.copy(alloc)?, found)))
+        }
         Some(Entity::Parameter) | None => {
             rule(faults, true, Kind::UnknownName, name.at)?;
             Ok(None)
@@ -262,59 +372,78 @@ fn group(at: u32, a: Option<Found>) -> Option<Found>
     match a {
         None => None,
         Some(a) => {
-            let Found {
-                at: _,
-                kind,
-                place,
-                term,
-            } = a;
-            Some(Found {
-                at,
-                kind,
-                place,
-                term,
-            })
+            let Found { at: _, form } = a;
+            Some(Found { at, form })
         }
     }
 }
 
-// The type that a cast or sizeof names.
-fn named_type(faults: &mut Vec<Fault>, name: &TypeName) -> Result<Option<CType>, AllocError>
-    ensures found { IfOk result (λ found. found ≡ (walk.named_type name.now).found) }
-    ensures faults { OnOk result (faults.new.items ≡ faults.old.items ++ (walk.named_type name.now).faults) }
+/// The type that a cast or sizeof names.
+pub fn named_type(
+    faults: &mut Vec<Fault>,
+    structs: &[Struct],
+    name: &TypeName,
+) -> Result<Option<CType>, AllocError>
+    ensures found { IfOk result (λ found. found ≡ (walk.named_type structs.now name.now).found) }
+    ensures faults { OnOk result (faults.new.items ≡ faults.old.items ++ (walk.named_type structs.now name.now).faults) }
 {
-    if is_unbuilt(&name.specifier, name.stars) {
-        rule(faults, true, Kind::NotYet, 0)?;
+    let before = faults.len();
+    note_specifier(faults, structs, None, &name.specifier)?;
+    if faults.len() > before {
         return Ok(None);
     }
-    Ok(Some(type_of(&name.specifier)))
+    Ok(Some(type_of(structs, None, &name.specifier, name.stars)))
 }
 
-fn cast_of(
+// `sizeof`.
+#[tactic(auto, using(std::proofs::Common::append_assoc))]
+fn sized(
     alloc: Global,
     faults: &mut Vec<Fault>,
+    structs: &[Struct],
     at: u32,
-    kind: Option<CType>,
-    a: Option<Found>,
+    name: &TypeName,
 ) -> Result<Option<Found>, AllocError>
-    ensures found { IfOk result (λ found. found ≡ (nodes.given (nodes.both kind a) (λ p. rules.cast at p.0 p.1)).found) }
-    ensures faults { OnOk result (faults.new.items ≡ faults.old.items ++ (nodes.given (nodes.both kind a) (λ p. rules.cast at p.0 p.1)).faults) }
+    ensures found { IfOk result (λ found. found ≡ (nodes.of_part (walk.named_type structs.now name.now) (rules.size_of structs.now at)).found) }
+    ensures faults { OnOk result (faults.new.items ≡ faults.old.items ++ (nodes.of_part (walk.named_type structs.now name.now) (rules.size_of structs.now at)).faults) }
 {
-    match both(kind, a) {
+    match named_type(faults, structs, name)? {
         None => Ok(None),
-        Some((kind, a)) => cast(alloc, faults, at, kind, a),
+        Some(kind) => size_of(alloc, faults, structs, at, kind),
+    }
+}
+
+// A member.
+fn member_of(
+    alloc: Global,
+    faults: &mut Vec<Fault>,
+    structs: &[Struct],
+    a: Option<Found>,
+    access: Access,
+    name: &MemberName,
+) -> Result<Option<Found>, AllocError>
+    ensures found { IfOk result (λ found. found ≡ (nodes.given a (λ x. rules.member structs.now access x name.now)).found) }
+    ensures faults { OnOk result (faults.new.items ≡ faults.old.items ++ (nodes.given a (λ x. rules.member structs.now access x name.now)).faults) }
+{
+    match a {
+        None => Ok(None),
+        Some(a) => match access {
+            Access::Dot => dot(alloc, faults, structs, a, name),
+            Access::Arrow => arrow(alloc, faults, structs, a, name),
+        },
     }
 }
 
 fn prefix(
     alloc: Global,
     faults: &mut Vec<Fault>,
+    structs: &[Struct],
     at: u32,
     operator: Operator,
     a: Option<Found>,
 ) -> Result<Option<Found>, AllocError>
-    ensures found { IfOk result (λ found. found ≡ (rules.prefix at operator a).found) }
-    ensures faults { OnOk result (faults.new.items ≡ faults.old.items ++ (rules.prefix at operator a).faults) }
+    ensures found { IfOk result (λ found. found ≡ (rules.prefix structs.now at operator a).found) }
+    ensures faults { OnOk result (faults.new.items ≡ faults.old.items ++ (rules.prefix structs.now at operator a).faults) }
 {
     match operator {
         Operator::Plus => signed(alloc, faults, UnaryOperator::Plus, at, a),
@@ -323,6 +452,14 @@ fn prefix(
         Operator::Not => match a {
             None => Ok(None),
             Some(a) => negation(alloc, faults, at, a),
+        },
+        Operator::Star => match a {
+            None => Ok(None),
+            Some(a) => dereference(alloc, faults, structs, at, a),
+        },
+        Operator::And => match a {
+            None => Ok(None),
+            Some(a) => address(alloc, faults, at, a),
         },
         _ => {
             rule(faults, true, Kind::NotYet, 0)?;
@@ -361,16 +498,17 @@ fn begun(alloc: Global, a: Option<Found>) -> Result<Option<Run>, AllocError>
 fn next(
     alloc: Global,
     faults: &mut Vec<Fault>,
+    structs: &[Struct],
     operator: Operator,
     a: Option<Run>,
     b: Option<Found>,
 ) -> Result<Option<Run>, AllocError>
-    ensures found { IfOk result (λ run. run ≡ (walk.next operator a b).found) }
-    ensures faults { OnOk result (faults.new.items ≡ faults.old.items ++ (walk.next operator a b).faults) }
+    ensures found { IfOk result (λ run. run ≡ (walk.next structs.now operator a b).found) }
+    ensures faults { OnOk result (faults.new.items ≡ faults.old.items ++ (walk.next structs.now operator a b).faults) }
 {
     match both(a, b) {
         None => Ok(None),
-        Some((a, b)) => link(alloc, faults, operator, a, b),
+        Some((a, b)) => link(alloc, faults, structs, operator, a, b),
     }
 }
 
@@ -378,19 +516,20 @@ fn next(
 pub fn link(
     alloc: Global,
     faults: &mut Vec<Fault>,
+    structs: &[Struct],
     operator: Operator,
     a: Run,
     b: Found,
 ) -> Result<Option<Run>, AllocError>
-    ensures found { IfOk result (λ run. run ≡ (rules.link operator a b).found) }
-    ensures faults { OnOk result (faults.new.items ≡ faults.old.items ++ (rules.link operator a b).faults) }
+    ensures found { IfOk result (λ run. run ≡ (rules.link structs.now operator a b).found) }
+    ensures faults { OnOk result (faults.new.items ≡ faults.old.items ++ (rules.link structs.now operator a b).faults) }
 {
     match operator {
         Operator::Star => arithmetic(alloc, faults, Arithmetic::Multiply, a, b),
         Operator::Slash => arithmetic(alloc, faults, Arithmetic::Divide, a, b),
         Operator::Percent => arithmetic(alloc, faults, Arithmetic::Remainder, a, b),
-        Operator::Plus => arithmetic(alloc, faults, Arithmetic::Add, a, b),
-        Operator::Minus => arithmetic(alloc, faults, Arithmetic::Subtract, a, b),
+        Operator::Plus => plus(alloc, faults, structs, a, b),
+        Operator::Minus => minus(alloc, faults, structs, a, b),
         Operator::And => arithmetic(alloc, faults, Arithmetic::And, a, b),
         Operator::Caret => arithmetic(alloc, faults, Arithmetic::ExclusiveOr, a, b),
         Operator::Or => arithmetic(alloc, faults, Arithmetic::InclusiveOr, a, b),

@@ -1,17 +1,19 @@
 //! Headers and their parameters.
 
-ghost use Rattle.std.specs.Prelude.{◌≡◌, ◌++◌, ◌&&◌, not, IfOk, OnOk, map};
+ghost use Rattle.std.specs.Prelude.{◌≡◌, ◌++◌, ◌&&◌, not, IfOk, OnOk};
 ghost use Rattle.std.specs.Option.{option_copied};
 ghost use Rattle.c_rules.specs.Scope.{scope_of, start};
 ghost use Rattle.c_rules.specs.Table.{called};
-ghost use Rattle.c_rules.specs.Types as types;
 ghost use Rattle.c_check.specs.Functions as headers;
 
-use c_kernel::CType;
+use c_kernel::{CType, Struct};
 use c_rules::fault::{Fault, rule};
 use c_rules::scope::Scope;
 use c_rules::signature::{Signature, function};
-use c_rules::types::{is_unbuilt, place_of, same_type, same_types, type_of};
+use c_rules::types::{
+    is_array_size, is_null, is_struct, is_void, note_specifier, one_object, place_of, pointer_to,
+    same_type, same_types, type_of,
+};
 use c_tree::Kind;
 use c_tree::tree::{Bound, Heading, Name, Parameter, PlainType, TypeSpecifier};
 use indexmap::IndexMap;
@@ -24,29 +26,40 @@ pub fn heading(
     alloc: Global,
     faults: &mut Vec<Fault>,
     functions: &IndexMap<Vec<u8>, Signature>,
+    structs: &[Struct],
     k: usize,
     defined: bool,
     h: &Heading,
 ) -> Result<Scope, AllocError>
-    ensures scope { IfOk result (λ scope. scope_of scope ≡ headers.with_parameters (headers.is_main h.now) start (headers.parameters_of h.now.parameters)) }
-    ensures faults { OnOk result (faults.new.items ≡ faults.old.items ++ headers.heading_rules (called functions.now.entries) k defined h.now) }
+    ensures scope { IfOk result (λ scope. scope_of scope ≡ headers.with_parameters structs.now (headers.is_main h.now) start (headers.parameters_of h.now.parameters)) }
+    ensures faults { OnOk result (faults.new.items ≡ faults.old.items ++ headers.heading_rules (called functions.now.entries) structs.now k defined h.now) }
 {
-    let main = is_main(h);
-    let unbuilt = !main && is_unbuilt(&h.specifier, h.stars);
-    rule(faults, unbuilt, Kind::NotYet, 0)?;
-    note_struct(faults, &h.specifier)?;
-    note_name(alloc, faults, functions, k, defined, h)?;
-    let parameters = parameters_of(h.parameters.as_slice());
-    into_scope(alloc, faults, main, defined, parameters)
+    let before = faults.len();
+    let scope = parts(alloc, faults, structs, defined, h)?;
+    let sound = faults.len() == before;
+    note_name(faults, functions, k, defined, h)?;
+    if !sound {
+        return Ok(scope);
+    }
+    note_types(alloc, faults, functions, structs, h)?;
+    Ok(scope)
 }
 
-fn note_struct(faults: &mut Vec<Fault>, specifier: &TypeSpecifier) -> Result<(), AllocError>
-    ensures { OnOk result (faults.new.items ≡ faults.old.items ++ headers.struct_rules specifier.now) }
+// The rules of its parts, and the names of its parameters in scope.
+#[tactic(auto, using(std::proofs::Common::append_assoc))]
+fn parts(
+    alloc: Global,
+    faults: &mut Vec<Fault>,
+    structs: &[Struct],
+    defined: bool,
+    h: &Heading,
+) -> Result<Scope, AllocError>
+    ensures scope { IfOk result (λ scope. scope_of scope ≡ headers.with_parameters structs.now (headers.is_main h.now) start (headers.parameters_of h.now.parameters)) }
+    ensures faults { OnOk result (faults.new.items ≡ faults.old.items ++ headers.parts_rules structs.now defined h.now) }
 {
-    match specifier {
-        TypeSpecifier::Plain { .. } => Ok(()),
-        TypeSpecifier::Struct { name, .. } => rule(faults, true, Kind::UnknownName, name.at),
-    }
+    note_specifier(faults, structs, None, &h.specifier)?;
+    let parameters = parameters_of(h.parameters.as_slice());
+    into_scope(alloc, faults, structs, is_main(h), defined, parameters)
 }
 
 fn is_word(specifier: &TypeSpecifier, word: PlainType) -> bool
@@ -63,15 +76,34 @@ fn is_word(specifier: &TypeSpecifier, word: PlainType) -> bool
     }
 }
 
-/// The types of parameters.
-pub fn types_of(alloc: Global, parameters: &[Parameter]) -> Result<Items<CType>, AllocError>
-    ensures { IfOk result (λ kinds. kinds ≡ map (λ p. types.type_of p.specifier) parameters.now) }
+/// The type of a parameter (C99 6.7.5.3).
+fn parameter_type(structs: &[Struct], p: &Parameter) -> CType
+    ensures { result ≡ headers.parameter_type structs.now p.now }
 {
+    let kind = type_of(structs, None, &p.specifier, p.stars);
+    match p.array {
+        None => kind,
+        Some(_) => pointer_to(kind),
+    }
+}
+
+/// The types of a header's parameters.
+pub fn types_of(alloc: Global, structs: &[Struct], h: &Heading) -> Result<Items<CType>, AllocError>
+    ensures { IfOk result (λ kinds. kinds ≡ headers.types_of structs.now h.now) }
+{
+    let parameters = parameters_of(h.parameters.as_slice());
     let mut kinds = Items::new(alloc);
     for p in parameters {
-        kinds.push(type_of(&p.specifier))?;
+        kinds.push(parameter_type(structs, p))?;
     }
     Ok(kinds)
+}
+
+/// The type of a function's result.
+pub fn result_of(structs: &[Struct], h: &Heading) -> CType
+    ensures { result ≡ headers.result_of structs.now h.now }
+{
+    type_of(structs, None, &h.specifier, h.stars)
 }
 
 // `void` alone is no parameter.
@@ -81,8 +113,8 @@ fn is_nothing(p: &Parameter) -> bool
     is_word(&p.specifier, PlainType::Void) && p.stars == 0 && p.name.is_none() && p.array.is_none()
 }
 
-/// The parameters, if there are any.
-pub fn parameters_of(parameters: &[Parameter]) -> &[Parameter]
+// The parameters, if there are any.
+fn parameters_of(parameters: &[Parameter]) -> &[Parameter]
     ensures { result.now ≡ headers.parameters_of parameters.now }
 {
     match parameters {
@@ -91,11 +123,10 @@ pub fn parameters_of(parameters: &[Parameter]) -> &[Parameter]
     }
 }
 
-// ---- the name
+// ---- the name and the types
 
 #[tactic(auto, using(std::proofs::Common::append_assoc))]
 fn note_name(
-    alloc: Global,
     faults: &mut Vec<Fault>,
     functions: &IndexMap<Vec<u8>, Signature>,
     k: usize,
@@ -104,11 +135,27 @@ fn note_name(
 ) -> Result<(), AllocError>
     ensures { OnOk result (faults.new.items ≡ faults.old.items ++ headers.name_rules (called functions.now.entries) k defined h.now) }
 {
-    let at = h.name.at;
     let first = function(functions, h.name.bytes.as_slice());
-    rule(faults, is_second(k, defined, first), Kind::Redeclared, at)?;
-    rule(faults, is_bad_main(defined, h), Kind::BadMain, at)?;
-    let differs = differs(alloc, h, first)?;
+    let second = is_second(k, defined, first);
+    rule(faults, second, Kind::Redeclared, h.name.at)?;
+    rule(faults, is_bad_main(defined, h), Kind::BadMain, h.name.at)
+}
+
+#[tactic(auto, using(std::proofs::Common::append_assoc))]
+fn note_types(
+    alloc: Global,
+    faults: &mut Vec<Fault>,
+    functions: &IndexMap<Vec<u8>, Signature>,
+    structs: &[Struct],
+    h: &Heading,
+) -> Result<(), AllocError>
+    ensures { OnOk result (faults.new.items ≡ faults.old.items ++ headers.type_rules (called functions.now.entries) structs.now h.now) }
+{
+    let at = h.name.at;
+    let bad = is_bad_result(result_of(structs, h));
+    rule(faults, bad, Kind::IncompleteType, at)?;
+    let first = function(functions, h.name.bytes.as_slice());
+    let differs = differs(alloc, structs, h, first)?;
     rule(faults, differs, Kind::PrototypeDiffers, at)
 }
 
@@ -125,15 +172,26 @@ fn is_second(k: usize, defined: bool, first: Option<&Signature>) -> bool
     }
 }
 
+fn is_bad_result(kind: CType) -> bool
+    ensures { result ≡ headers.is_bad_result kind }
+{
+    is_struct(kind) || is_null(kind)
+}
+
 // Against the first header of its name.
-fn differs(alloc: Global, h: &Heading, first: Option<&Signature>) -> Result<bool, AllocError>
-    ensures { IfOk result (λ differs. differs ≡ headers.differs h.now (option_copied first.entry)) }
+fn differs(
+    alloc: Global,
+    structs: &[Struct],
+    h: &Heading,
+    first: Option<&Signature>,
+) -> Result<bool, AllocError>
+    ensures { IfOk result (λ differs. differs ≡ headers.differs structs.now h.now (option_copied first.entry)) }
 {
     match first {
         None => Ok(false),
         Some(f) => {
-            let kinds = types_of(alloc, parameters_of(h.parameters.as_slice()))?;
-            let same = same_type(&type_of(&h.specifier), &f.result)
+            let kinds = types_of(alloc, structs, h)?;
+            let same = same_type(result_of(structs, h), f.result)
                 && same_types(kinds.as_slice(), f.parameters.as_slice());
             Ok(!same)
         }
@@ -194,17 +252,18 @@ fn is_vector(p: &Parameter) -> bool
 fn into_scope(
     alloc: Global,
     faults: &mut Vec<Fault>,
+    structs: &[Struct],
     main: bool,
     defined: bool,
     parameters: &[Parameter],
 ) -> Result<Scope, AllocError>
-    ensures scope { IfOk result (λ scope. scope_of scope ≡ headers.with_parameters main start parameters.now) }
-    ensures faults { OnOk result (faults.new.items ≡ faults.old.items ++ headers.parameters_rules main defined start parameters.now) }
+    ensures scope { IfOk result (λ scope. scope_of scope ≡ headers.with_parameters structs.now main start parameters.now) }
+    ensures faults { OnOk result (faults.new.items ≡ faults.old.items ++ headers.parameters_rules structs.now main defined start parameters.now) }
 {
     let mut scope = Scope::new(alloc);
     for p in parameters {
-        note_parameter(faults, main, defined, &scope, p)?;
-        with_parameter(alloc, main, p, &mut scope)?;
+        note_parameter(faults, structs, defined, &scope, p)?;
+        with_parameter(alloc, structs, main, p, &mut scope)?;
     }
     Ok(scope)
 }
@@ -212,20 +271,28 @@ fn into_scope(
 #[tactic(auto, using(std::proofs::Common::append_assoc))]
 fn note_parameter(
     faults: &mut Vec<Fault>,
-    main: bool,
+    structs: &[Struct],
     defined: bool,
     scope: &Scope,
     p: &Parameter,
 ) -> Result<(), AllocError>
-    ensures { OnOk result (faults.new.items ≡ faults.old.items ++ headers.parameter_rules main defined (scope_of scope.now) p.now) }
+    ensures { OnOk result (faults.new.items ≡ faults.old.items ++ headers.parameter_rules structs.now defined (scope_of scope.now) p.now) }
 {
     let at = parameter_place(p);
-    let unbuilt = !main && is_unbuilt_parameter(p);
-    rule(faults, unbuilt, Kind::NotYet, 0)?;
-    note_struct(faults, &p.specifier)?;
+    let before = faults.len();
+    note_specifier(faults, structs, None, &p.specifier)?;
+    let sound = faults.len() == before;
     rule(faults, is_named_here(scope, &p.name), Kind::Redeclared, at)?;
+    if !sound {
+        return Ok(());
+    }
     rule(faults, is_bad_bound(&p.array), Kind::ArraySize, at)?;
-    rule(faults, is_incomplete(defined, p), Kind::IncompleteType, at)
+    rule(
+        faults,
+        is_unfit(structs, defined, p),
+        Kind::IncompleteType,
+        at,
+    )
 }
 
 // Its name, or its type where it has none.
@@ -236,12 +303,6 @@ fn parameter_place(p: &Parameter) -> u32
         None => place_of(&p.specifier),
         Some(name) => name.at,
     }
-}
-
-fn is_unbuilt_parameter(p: &Parameter) -> bool
-    ensures { result ≡ headers.is_unbuilt_parameter p.now }
-{
-    is_unbuilt(&p.specifier, p.stars) || p.array.is_some()
 }
 
 fn is_named_here(scope: &Scope, name: &Option<Name>) -> bool
@@ -265,38 +326,33 @@ fn is_bad_bound(bound: &Option<Bound>) -> bool
     }
 }
 
-const LARGEST_ARRAY: u64 = 8192;
-
-fn is_array_size(size: u64) -> bool
-    ensures { result ≡ headers.is_array_size size }
+// Void, a pointer to it or a struct, or without a name in a definition.
+fn is_unfit(structs: &[Struct], defined: bool, p: &Parameter) -> bool
+    ensures { result ≡ headers.is_unfit structs.now defined p.now }
 {
-    size > 0 && size <= LARGEST_ARRAY
-}
-
-fn is_incomplete(defined: bool, p: &Parameter) -> bool
-    ensures { result ≡ headers.is_incomplete defined p.now }
-{
-    let void = is_word(&p.specifier, PlainType::Void) && p.stars == 0 && p.array.is_none();
-    void || (defined && p.name.is_none())
+    let kind = parameter_type(structs, p);
+    is_void(kind) || is_null(kind) || is_struct(kind) || (defined && p.name.is_none())
 }
 
 // A parameter comes into scope; those of main are no variables.
 fn with_parameter(
     alloc: Global,
+    structs: &[Struct],
     main: bool,
     p: &Parameter,
     scope: &mut Scope,
 ) -> Result<(), AllocError>
-    ensures { OnOk result (scope_of scope.new ≡ headers.with_parameter main p.now (scope_of scope.old)) }
+    ensures { OnOk result (scope_of scope.new ≡ headers.with_parameter structs.now main p.now (scope_of scope.old)) }
 {
     match &p.name {
         None => Ok(()),
         Some(name) => {
+            let bytes = name.bytes.as_slice();
             if main {
-                scope.hide(alloc, name.bytes.as_slice())
-            } else {
-                scope.declare(alloc, name.bytes.as_slice(), type_of(&p.specifier))
+                return scope.hide(alloc, bytes);
             }
+            let kind = one_object(alloc, structs, parameter_type(structs, p));
+            scope.declare(alloc, bytes, kind)
         }
     }
 }

@@ -6,40 +6,54 @@ ghost use Rattle.c_rules.specs.Scope.{scope_of, start};
 ghost use Rattle.c_rules.specs.Table.{called};
 ghost use Rattle.c_check.specs.Functions as headers;
 ghost use Rattle.c_check.specs.Program as program;
+ghost use Rattle.c_check.specs.Structs.{all_structs, struct_rules};
 
 use crate::body::body_items;
 use crate::expression::both;
-use crate::heading::heading;
+use crate::heading::{heading, result_of};
+use crate::structs::{add_struct, note_struct};
 use crate::table::next_number;
+use c_kernel::Struct;
 use c_kernel::program::Function;
-use c_rules::fault::{Fault, rule};
+use c_rules::fault::Fault;
 use c_rules::scope::Scope;
 use c_rules::signature::Signature;
-use c_rules::types::type_of;
-use c_tree::Kind;
-use c_tree::tree::{Block, Heading, Item, Stmt};
+use c_tree::tree::{Block, Heading, Item, MemberDeclaration, Name, Stmt};
 use indexmap::IndexMap;
 use sqlite_items::Items;
 use std::alloc::{AllocError, Global};
 
-/// The functions that the items define.
+/// What the items of a program define: its structs, and its functions, where they are sound.
+#[derive(Debug, Drop)]
+pub struct Defined {
+    pub structs: Items<Struct>,
+    pub functions: Option<Items<Function>>,
+}
+
+/// What the items define.
 pub fn items(
     alloc: Global,
     faults: &mut Vec<Fault>,
     functions: &IndexMap<Vec<u8>, Signature>,
     items: &[Item],
-) -> Result<Option<Items<Function>>, AllocError>
-    ensures found { IfOk result (λ found. found ≡ (program.items_judged (called functions.now.entries) 0 items.now).found) }
-    ensures faults { OnOk result (faults.new.items ≡ faults.old.items ++ (program.items_judged (called functions.now.entries) 0 items.now).faults) }
+) -> Result<Defined, AllocError>
+    ensures structs { IfOk result (λ defined. defined.structs ≡ all_structs [] items.now) }
+    ensures functions { IfOk result (λ defined. defined.functions ≡ (program.items_judged (called functions.now.entries) [] 0 items.now).found) }
+    ensures faults { OnOk result (faults.new.items ≡ faults.old.items ++ (program.items_judged (called functions.now.entries) [] 0 items.now).faults) }
 {
+    let mut structs = Items::new(alloc);
     let mut found = Some(Items::new(alloc));
     let mut number = 0;
     for x in items {
-        let more = item(alloc, faults, functions, number, x)?;
+        let more = item(alloc, faults, functions, structs.as_slice(), number, x)?;
         found = appended(found, more)?;
         number = next_number(number, x);
+        add_struct(alloc, &mut structs, x)?;
     }
-    Ok(found)
+    Ok(Defined {
+        structs,
+        functions: found,
+    })
 }
 
 // All so far and more, where all are sound.
@@ -64,21 +78,21 @@ fn item(
     alloc: Global,
     faults: &mut Vec<Fault>,
     functions: &IndexMap<Vec<u8>, Signature>,
+    structs: &[Struct],
     number: usize,
     x: &Item,
 ) -> Result<Option<Items<Function>>, AllocError>
-    ensures found { IfOk result (λ found. found ≡ (program.item_judged (called functions.now.entries) number x.now).found) }
-    ensures faults { OnOk result (faults.new.items ≡ faults.old.items ++ (program.item_judged (called functions.now.entries) number x.now).faults) }
+    ensures found { IfOk result (λ found. found ≡ (program.item_judged (called functions.now.entries) structs.now number x.now).found) }
+    ensures faults { OnOk result (faults.new.items ≡ faults.old.items ++ (program.item_judged (called functions.now.entries) structs.now number x.now).faults) }
 {
     match x {
         Item::Include { .. } => Ok(Some(Items::new(alloc))),
-        Item::Struct { .. } => {
-            rule(faults, true, Kind::NotYet, 0)?;
-            Ok(None)
+        Item::Struct { name, members, .. } => {
+            structure(alloc, faults, structs, name, members.as_slice())
         }
-        Item::Prototype(heading) => prototype(alloc, faults, functions, number, heading),
+        Item::Prototype(heading) => prototype(alloc, faults, functions, structs, number, heading),
         Item::Function { heading, body } => {
-            match definition(alloc, faults, functions, number, heading, body)? {
+            match definition(alloc, faults, functions, structs, number, heading, body)? {
                 None => Ok(None),
                 Some(f) => {
                     let mut functions = Items::new(alloc);
@@ -90,19 +104,40 @@ fn item(
     }
 }
 
+// A struct defines no function.
+#[tactic(auto, using(crate::proofs::InOrder::broken))]
+fn structure(
+    alloc: Global,
+    faults: &mut Vec<Fault>,
+    structs: &[Struct],
+    name: &Name,
+    members: &[MemberDeclaration],
+) -> Result<Option<Items<Function>>, AllocError>
+    ensures found { IfOk result (λ found. found ≡ (nodes.by (struct_rules structs.now name.now members.now) []).found) }
+    ensures faults { OnOk result (faults.new.items ≡ faults.old.items ++ struct_rules structs.now name.now members.now) }
+{
+    let before = faults.len();
+    note_struct(alloc, faults, structs, name, members)?;
+    if faults.len() > before {
+        return Ok(None);
+    }
+    Ok(Some(Items::new(alloc)))
+}
+
 #[tactic(auto, using(crate::proofs::InOrder::broken))]
 fn prototype(
     alloc: Global,
     faults: &mut Vec<Fault>,
     functions: &IndexMap<Vec<u8>, Signature>,
+    structs: &[Struct],
     number: usize,
     h: &Heading,
 ) -> Result<Option<Items<Function>>, AllocError>
-    ensures found { IfOk result (λ found. found ≡ (nodes.by (headers.heading_rules (called functions.now.entries) number false h.now) []).found) }
-    ensures faults { OnOk result (faults.new.items ≡ faults.old.items ++ headers.heading_rules (called functions.now.entries) number false h.now) }
+    ensures found { IfOk result (λ found. found ≡ (nodes.by (headers.heading_rules (called functions.now.entries) structs.now number false h.now) []).found) }
+    ensures faults { OnOk result (faults.new.items ≡ faults.old.items ++ headers.heading_rules (called functions.now.entries) structs.now number false h.now) }
 {
     let before = faults.len();
-    heading(alloc, faults, functions, number, false, h)?;
+    heading(alloc, faults, functions, structs, number, false, h)?;
     if faults.len() > before {
         return Ok(None);
     }
@@ -115,15 +150,16 @@ fn definition(
     alloc: Global,
     faults: &mut Vec<Fault>,
     functions: &IndexMap<Vec<u8>, Signature>,
+    structs: &[Struct],
     number: usize,
     h: &Heading,
     body: &Block<Stmt>,
 ) -> Result<Option<Function>, AllocError>
-    ensures found { IfOk result (λ found. found ≡ (program.body (called functions.now.entries) h.now body.now.items).found) }
-    ensures faults { OnOk result (faults.new.items ≡ faults.old.items ++ headers.heading_rules (called functions.now.entries) number true h.now ++ (program.body (called functions.now.entries) h.now body.now.items).faults) }
+    ensures found { IfOk result (λ found. found ≡ (program.body (called functions.now.entries) structs.now h.now body.now.items).found) }
+    ensures faults { OnOk result (faults.new.items ≡ faults.old.items ++ headers.heading_rules (called functions.now.entries) structs.now number true h.now ++ (program.body (called functions.now.entries) structs.now h.now body.now.items).faults) }
 {
-    let scope = heading(alloc, faults, functions, number, true, h)?;
-    function(alloc, faults, functions, scope, h, body)
+    let scope = heading(alloc, faults, functions, structs, number, true, h)?;
+    function(alloc, faults, functions, structs, scope, h, body)
 }
 
 // A function with its parameters in scope, which its body's outermost declarations join.
@@ -131,20 +167,21 @@ fn function(
     alloc: Global,
     faults: &mut Vec<Fault>,
     functions: &IndexMap<Vec<u8>, Signature>,
+    structs: &[Struct],
     scope: Scope,
     h: &Heading,
     body: &Block<Stmt>,
 ) -> Result<Option<Function>, AllocError>
-    requires { scope_of scope ≡ headers.with_parameters (headers.is_main h.now) start (headers.parameters_of h.now.parameters) }
-    ensures found { IfOk result (λ found. found ≡ (program.body (called functions.now.entries) h.now body.now.items).found) }
-    ensures faults { OnOk result (faults.new.items ≡ faults.old.items ++ (program.body (called functions.now.entries) h.now body.now.items).faults) }
+    requires { scope_of scope ≡ headers.with_parameters structs.now (headers.is_main h.now) start (headers.parameters_of h.now.parameters) }
+    ensures found { IfOk result (λ found. found ≡ (program.body (called functions.now.entries) structs.now h.now body.now.items).found) }
+    ensures faults { OnOk result (faults.new.items ≡ faults.old.items ++ (program.body (called functions.now.entries) structs.now h.now body.now.items).faults) }
 {
     let mut scope = scope;
     let parameters = scope.variables.len();
-    let result = type_of(&h.specifier);
+    let result = result_of(structs, h);
     let name = Items::from_slice(alloc, h.name.bytes.as_slice())?;
     let items = body.items.as_slice();
-    match body_items(alloc, faults, functions, &mut scope, &result, items)? {
+    match body_items(alloc, faults, functions, structs, &mut scope, result, items)? {
         None => Ok(None),
         Some(body) => Ok(Some(Function {
             name,

@@ -10,6 +10,7 @@ mod heading;
 mod item;
 mod single;
 mod statement;
+mod structs;
 mod table;
 
 ghost use Rattle.std.specs.Prelude.{◌≡◌, ◌++◌, IfOk, OnOk, IfSome, option_map};
@@ -21,7 +22,7 @@ ghost use Rattle.c_check.specs.Check.{Verdict, Judges, said};
 ghost use Rattle.c_check.specs.Functions.{number_in};
 ghost use Rattle.c_check.specs.Program.{judged_tree, main_in};
 
-use c_kernel::program::{Function, Program};
+use c_kernel::program::Program;
 use c_rules::fault::{Fault, rule};
 use c_rules::signature::{Signature, function};
 use c_tree::Kind;
@@ -30,8 +31,7 @@ use expression::both;
 pub use fault::CheckFault;
 use fault::first;
 use indexmap::IndexMap;
-use item::items;
-use sqlite_items::Items;
+use item::{Defined, items};
 use std::alloc::{AllocError, Global};
 use table::table;
 
@@ -98,12 +98,17 @@ fn number(f: Option<&Signature>) -> Option<usize>
     }
 }
 
-// The functions and the one that starts it make a program.
-fn whole(functions: Option<Items<Function>>, main: Option<usize>) -> Option<Program>
-    ensures { result ≡ option_map (λ p. record { functions = p.0; main = p.1 }) (nodes.both functions main) }
+// What is defined and the function that it starts in make a program.
+fn whole(defined: Defined, main: Option<usize>) -> Option<Program>
+    ensures { result ≡ option_map (λ p. record { structs = defined.structs; functions = p.0; main = p.1 }) (nodes.both defined.functions main) }
 {
+    let Defined { structs, functions } = defined;
     match both(functions, main) {
         None => None,
-        Some((functions, main)) => Some(Program { functions, main }),
+        Some((functions, main)) => Some(Program {
+            structs,
+            functions,
+            main,
+        }),
     }
 }

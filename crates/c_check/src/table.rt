@@ -1,27 +1,31 @@
 //! The functions that can be called.
 
-ghost use Rattle.std.specs.Prelude.{◌≡◌, ◌<◌, ◌^◌, if◌then◌else◌, Some, None, IfOk, OnOk};
+ghost use Rattle.std.specs.Prelude.{◌≡◌, ◌<◌, ◌^◌, if◌then◌else◌, [], Some, None, IfOk, OnOk};
 ghost use Rattle.std.specs.Str.{bytes_eq};
 ghost use Rattle.c_rules.specs.Scope.{Bytes};
 ghost use Rattle.c_rules.specs.Table.{called};
 ghost use Rattle.c_check.specs.Functions as functions;
 
-use crate::heading::{parameters_of, types_of};
+use crate::heading::{result_of, types_of};
+use crate::structs::add_struct;
+use c_kernel::Struct;
 use c_rules::signature::Signature;
-use c_rules::types::type_of;
 use c_tree::tree::{Heading, Item};
 use indexmap::IndexMap;
+use sqlite_items::Items;
 use std::alloc::{AllocError, Global};
 
 /// The functions of a program's items.
 pub fn table(alloc: Global, items: &[Item]) -> Result<IndexMap<Vec<u8>, Signature>, AllocError>
-    ensures { IfOk result (λ table. (name : Bytes) → called table.entries name ≡ functions.signatures 0 items.now name) }
+    ensures { IfOk result (λ table. (name : Bytes) → called table.entries name ≡ functions.signatures [] 0 items.now name) }
 {
     let mut table = IndexMap::new(alloc);
+    let mut structs = Items::new(alloc);
     let mut number = 0;
     for item in items {
-        add_item(alloc, &mut table, number, item)?;
+        add_item(alloc, &mut table, structs.as_slice(), number, item)?;
         number = next_number(number, item);
+        add_struct(alloc, &mut structs, item)?;
     }
     Ok(table)
 }
@@ -42,32 +46,33 @@ pub fn next_number(number: usize, item: &Item) -> usize
 fn add_item(
     alloc: Global,
     table: &mut IndexMap<Vec<u8>, Signature>,
+    structs: &[Struct],
     number: usize,
     item: &Item,
 ) -> Result<(), AllocError>
-    ensures { OnOk result ((name : Bytes) → called table.new.entries name ≡ functions.joined (called table.old.entries name) (functions.said_by number (functions.is_definition item.now) (functions.heading_in item.now) name)) }
+    ensures { OnOk result ((name : Bytes) → called table.new.entries name ≡ functions.joined (called table.old.entries name) (functions.said_by structs.now number (functions.is_definition item.now) (functions.heading_in item.now) name)) }
 {
     match item {
         Item::Include { .. } | Item::Struct { .. } => Ok(()),
-        Item::Prototype(heading) => add_heading(alloc, table, number, false, heading),
-        Item::Function { heading, .. } => add_heading(alloc, table, number, true, heading),
+        Item::Prototype(heading) => add_heading(alloc, table, structs, number, false, heading),
+        Item::Function { heading, .. } => add_heading(alloc, table, structs, number, true, heading),
     }
 }
 
 fn add_heading(
     alloc: Global,
     table: &mut IndexMap<Vec<u8>, Signature>,
+    structs: &[Struct],
     number: usize,
     defined: bool,
     heading: &Heading,
 ) -> Result<(), AllocError>
-    ensures { OnOk result ((name : Bytes) → called table.new.entries name ≡ functions.joined (called table.old.entries name) (functions.said_by number defined (Some heading.now) name)) }
+    ensures { OnOk result ((name : Bytes) → called table.new.entries name ≡ functions.joined (called table.old.entries name) (functions.said_by structs.now number defined (Some heading.now) name)) }
 {
     let name = Vec::from_slice(alloc, heading.name.bytes.as_slice())?;
-    let parameters = parameters_of(heading.parameters.as_slice());
     let signature = Signature {
-        result: type_of(&heading.specifier),
-        parameters: types_of(alloc, parameters)?,
+        result: result_of(structs, heading),
+        parameters: types_of(alloc, structs, heading)?,
         number: defined.then_some(number),
     };
     join(table, name, signature)

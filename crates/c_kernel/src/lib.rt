@@ -4,4 +4,4 @@
 pub mod program;
 mod types;
 
-pub use types::{CType, IntegerType, cells, size};
+pub use types::{Base, CType, Extent, IntegerType, Member, ObjectType, Struct, extent_of};

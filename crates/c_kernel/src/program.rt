@@ -1,17 +1,17 @@
 //! A program in which names are resolved and conversions stand.
-//!
-//! A place is an expression too: its value is a pointer to what stands there.
 
 mod copy;
 #[cfg(test)]
 mod tests;
 
-use crate::types::{CType, IntegerType};
+use crate::types::{CType, Extent, IntegerType, ObjectType, Struct};
 use sqlite_items::{Boxed, Items};
 
 /// A program. It starts in the function with the number `main`.
 #[derive(Debug, Drop)]
 pub struct Program {
+    /// In the text's order. A type names a struct by its place here.
+    pub structs: Items<Struct>,
     /// In the text's order. A call names a function by its place here.
     pub functions: Items<Function>,
     pub main: usize,
@@ -25,7 +25,7 @@ pub struct Function {
     /// How many of the variables are parameters.
     pub parameters: usize,
     /// The types of all its variables: the parameters, then those that its body declares, in the text's order.
-    pub variables: Items<CType>,
+    pub variables: Items<ObjectType>,
     pub body: Items<Stmt>,
 }
 
@@ -63,6 +63,8 @@ pub enum Stmt {
         format: Items<Piece>,
         arguments: Items<Expr>,
     },
+    /// `free`.
+    Free(Expr),
     /// A place where a checkpoint may be taken.
     Mark,
 }
@@ -80,7 +82,7 @@ pub enum Action {
     /// The variable with this number gets zeros.
     Zero(usize),
     Set {
-        place: Place,
+        place: Place<Expr>,
         value: Expr,
     },
     Call {
@@ -88,13 +90,19 @@ pub enum Action {
         function: usize,
         arguments: Items<Expr>,
     },
+    /// `place = malloc(bytes)`, for objects that take so much room each (C99 7.20.3.3).
+    Malloc {
+        place: Place<Expr>,
+        bytes: Expr,
+        each: Extent,
+    },
 }
 
-/// Where the result of a call goes, converted to the type.
+/// Where the result of a call goes, converted to the kind.
 #[derive(Debug, Drop)]
 pub struct Target {
-    pub place: Place,
-    pub kind: IntegerType,
+    pub place: Place<Expr>,
+    pub kind: Scalar,
 }
 
 /// A piece of a format, which gives a byte or prints the next argument (C99 7.19.6.1).
@@ -109,8 +117,44 @@ pub enum Piece {
     Character,
 }
 
-/// An expression whose value is a pointer to the place.
-pub type Place = Expr;
+/// What one cell is read as.
+#[derive(Clone, Copy, PartialEq, Eq, Debug)]
+pub enum Scalar {
+    Number(IntegerType),
+    Pointer,
+}
+
+/// A place: that of a variable or of what a pointer points to, or what is selected there, step by step.
+#[derive(Debug, Drop)]
+pub struct Place<E> {
+    pub root: Root<E>,
+    pub steps: Items<Selection<E>>,
+}
+
+/// Where a place begins.
+#[derive(Debug, Drop)]
+pub enum Root<E> {
+    /// The variable with this number.
+    Variable(usize),
+    /// What the pointer points to.
+    Target(Boxed<E>),
+}
+
+/// What is selected at a place.
+#[derive(Debug, Drop)]
+pub enum Selection<E> {
+    /// `[index]`, of elements with so many cells each.
+    Element {
+        index: E,
+        cells: u32,
+    },
+    /// The member of a struct with these numbers, which begins at this cell.
+    Member {
+        structure: usize,
+        member: usize,
+        place: u32,
+    },
+}
 
 /// An expression (C99 6.5).
 #[derive(Debug, Drop)]
@@ -119,13 +163,15 @@ pub enum Expr {
         value: u64,
         kind: IntegerType,
     },
-    /// The place of the variable with this number.
-    Variable(usize),
-    /// The number that stands at a place, read as one of the type.
+    /// `NULL`, or the literal 0 as a pointer.
+    Null,
+    /// What stands at a place.
     Load {
-        place: Boxed<Expr>,
-        kind: IntegerType,
+        place: Place<Expr>,
+        kind: Scalar,
     },
+    /// `&` (C99 6.5.3.2).
+    Address(Place<Expr>),
     /// A conversion (C99 6.3.1), which changes the type.
     Convert {
         kind: IntegerType,
@@ -184,6 +230,17 @@ pub enum BinaryOperator {
     },
     /// Of two numbers of one type; the result is an int (C99 6.5.8, 6.5.9).
     Comparison(Comparison),
+    /// `+` or `-` of a pointer and a number of elements, which have so many cells each (C99 6.5.6).
+    Advance {
+        way: Way,
+        cells: u32,
+    },
+    /// `-` of two pointers, in elements with so many cells each; the result is a long (C99 6.5.6).
+    Distance {
+        cells: u32,
+    },
+    /// Of two pointers; the result is an int (C99 6.5.8, 6.5.9).
+    PointerComparison(Comparison),
     /// `&&`.
     And,
     /// `||`.
@@ -208,6 +265,13 @@ pub enum Arithmetic {
 pub enum Direction {
     Left,
     Right,
+}
+
+/// The way that a pointer goes.
+#[derive(Clone, Copy, PartialEq, Eq, Debug)]
+pub enum Way {
+    Forward,
+    Back,
 }
 
 /// A relational or equality operator.

@@ -1,5 +1,5 @@
 -- What is gathered in order.
-use Rattle.std.proofs.Common.{◌≡◌, ℕ, ◌≤◌, zero, suc, List, [], ◌∷◌, ◌++◌, Option, Some, None, refl, ap, sym, ◌∙◌, append_assoc, append-nil, drop, length, length-drop, arith}
+use Rattle.std.proofs.Common.{◌≡◌, List, [], ◌∷◌, ◌++◌, Option, Some, None, refl, ap, append_assoc, append-nil}
 use Rattle.c_rules.specs.Judged.{more, gathered}
 
 -- what was gathered and the rest

@@ -1,5 +1,5 @@
 -- Lists that are compared item by item.
-use Rattle.std.proofs.Common.{◌≡◌, ℕ, ◌<◌, length, drop, length-drop, List, [], ◌∷◌, true, false, refl, arith}
+use Rattle.std.proofs.Common.{◌≡◌, ℕ, ◌<◌, length, drop, length-drop, List, [], ◌∷◌, false, refl, arith}
 use Rattle.c_kernel.specs.declared.types.CType.{CType}
 use Rattle.c_rules.specs.declared.found.Found.{Found}
 use Rattle.c_rules.specs.Types.{same_types}

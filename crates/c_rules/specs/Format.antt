@@ -1,7 +1,6 @@
 -- The format of a printf (C99 7.19.6.1).
 use Rattle.std.specs.Prelude.{ℕ, Bool, true, false, ◌&&◌, List, [], ◌∷◌, nat_eq, Option, Some, None, if◌then◌else◌}
 use Rattle.c_kernel.specs.declared.types.CType.{CType}
-use Rattle.c_kernel.specs.declared.types.CType.TheVariants.{Integer, Void}
 use Rattle.c_kernel.specs.declared.types.IntegerType.{IntegerType}
 use Rattle.c_kernel.specs.declared.types.IntegerType.TheVariants.{Int, Long}
 use Rattle.c_kernel.specs.declared.program.Piece.{Piece}
@@ -12,7 +11,8 @@ use Rattle.c_rules.specs.declared.format.Spot.TheVariants.{Outside, Percent, Per
 use Rattle.c_rules.specs.declared.format.Reading.{Reading}
 use Rattle.c_rules.specs.declared.format.Reading.TheVariants.{Gives, Moves, Wrong}
 use Rattle.c_rules.specs.Judged.{more}
-use Rattle.c_rules.specs.Types.{promoted, same_integer}
+use Rattle.c_rules.specs.Types.{is_integer, integer_of, promoted, same_integer}
+use Rattle.c_rules.specs.Rules.{kind_of}
 
 -- behind %: d, c, % or the l of ld
 abbrev pub read_behind : ℕ → Reading
@@ -50,14 +50,13 @@ wanted LongDecimal = Some Long
 wanted Character = Some Int
 
 abbrev pub computes_as : IntegerType → CType → Bool
-computes_as kind (Integer k) = same_integer kind (promoted k)
-computes_as kind Void = false
+computes_as kind t = is_integer t && same_integer kind (promoted (integer_of t))
 
 -- one argument for each %d, %ld and %c, of its type
 abbrev pub fit_one : Option IntegerType → List Found → (List Found → Bool) → Bool
 fit_one None vs rest = rest vs
 fit_one (Some kind) [] rest = false
-fit_one (Some kind) (v ∷ vs) rest = computes_as kind v.kind && rest vs
+fit_one (Some kind) (v ∷ vs) rest = computes_as kind (kind_of v) && rest vs
 
 abbrev pub fit : List Piece → List Found → Bool
 fit [] [] = true

@@ -1,5 +1,5 @@
 -- The rules that are broken at a node and its parts, and its typed form where none is.
-use Rattle.std.specs.Prelude.{ℕ, Bool, true, false, List, [], ◌∷◌, ◌++◌, Option, Some, None, if◌then◌else◌}
+use Rattle.std.specs.Prelude.{ℕ, Bool, true, List, [], ◌∷◌, ◌++◌, Option, Some, None, if◌then◌else◌}
 use Rattle.c_tree.specs.declared.kind.Kind.{Kind}
 use Rattle.c_rules.specs.declared.fault.Fault.{Fault}
 

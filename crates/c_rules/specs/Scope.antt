@@ -4,7 +4,7 @@ use Rattle.std.specs.Map.{lookup}
 use Rattle.std.specs.Str.{bytes_eq}
 use Rattle.std.specs.declared.alloc.Global.{Global}
 use Rattle.indexmap.specs.IndexMap.{insert_entry}
-use Rattle.c_kernel.specs.declared.types.CType.{CType}
+use Rattle.c_kernel.specs.declared.types.ObjectType.{ObjectType}
 use Rattle.c_rules.specs.declared.scope.Scope.{Scope as Blocks}
 use Rattle.c_rules.specs.declared.scope.Entity.{Entity}
 use Rattle.c_rules.specs.declared.scope.Entity.TheVariants.{Variable, Parameter}
@@ -21,7 +21,7 @@ Names = List (Bytes × Entity)
 pub record Scope : Type 0 where
   pub around : List Names
   pub here : Names
-  pub variables : List CType
+  pub variables : List ObjectType
 
 abbrev pub in_block : Names → Bytes → Option Entity
 in_block block name = lookup (bytes_eq name) block
@@ -42,7 +42,7 @@ abbrev pub is_here : Scope → Bytes → Bool
 is_here s name = is_some (in_block s.here name)
 
 -- with one variable more
-abbrev pub declare : Scope → Bytes → CType → Scope
+abbrev pub declare : Scope → Bytes → ObjectType → Scope
 declare s name kind = record {
   around = s.around;
   here = insert_entry bytes_eq s.here name (Variable (record { number = length s.variables; kind = kind }));

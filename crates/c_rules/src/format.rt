@@ -4,7 +4,8 @@ ghost use Rattle.std.specs.Prelude.{◌≡◌, IfOk};
 ghost use Rattle.c_rules.specs.Format as formats;
 
 use crate::found::Found;
-use crate::types::{promoted, same_integer};
+use crate::rules::kind_of;
+use crate::types::{integer_of, is_integer, promoted, same_integer};
 use c_kernel::program::Piece;
 use c_kernel::{CType, IntegerType};
 use sqlite_items::Items;
@@ -98,13 +99,10 @@ fn wanted(piece: Piece) -> Option<IntegerType>
     }
 }
 
-fn computes_as(kind: IntegerType, t: &CType) -> bool
-    ensures { result ≡ formats.computes_as kind t.now }
+fn computes_as(kind: IntegerType, t: CType) -> bool
+    ensures { result ≡ formats.computes_as kind t }
 {
-    match t {
-        CType::Integer(k) => same_integer(kind, promoted(*k)),
-        CType::Void => false,
-    }
+    is_integer(t) && same_integer(kind, promoted(integer_of(t)))
 }
 
 /// Whether there is one argument for each conversion, of its type.
@@ -118,7 +116,7 @@ pub fn fit(pieces: &[Piece], values: &[Found]) -> bool
             Some(kind) => match rest {
                 [] => return false,
                 [value, more @ ..] => {
-                    if !computes_as(kind, &value.kind) {
+                    if !computes_as(kind, kind_of(value)) {
                         return false;
                     }
                     rest = more;

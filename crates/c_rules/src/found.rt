@@ -1,32 +1,48 @@
 //! What expressions are found to be.
 
-use c_kernel::CType;
-use c_kernel::program::{Expr, Link};
+use c_kernel::program::{Expr, Link, Place};
+use c_kernel::{CType, IntegerType, ObjectType};
 use sqlite_items::{Boxed, Items};
 
-/// An expression that breaks no rule: its first byte, its type, and its typed form, which is that of a place where it is one.
+/// An expression that breaks no rule, with its first byte.
 #[derive(Debug, Drop)]
 pub struct Found {
     pub at: u32,
-    pub kind: CType,
-    pub place: bool,
-    pub term: Boxed<Expr>,
+    pub form: Form,
 }
 
-/// A chain of operators up to one of them.
+/// What an expression is.
+#[derive(Debug, Drop)]
+pub enum Form {
+    /// The literal 0 of the type, which is a null pointer too (C99 6.3.2.3).
+    Zero(IntegerType),
+    Value {
+        kind: CType,
+        term: Boxed<Expr>,
+    },
+    /// A place, with the type of what stands there.
+    Place {
+        kind: ObjectType,
+        place: Boxed<Place<Expr>>,
+    },
+}
+
+/// A chain of operators up to one of them. It is `zero` where it is the literal 0 alone.
 #[derive(Debug, Drop)]
 pub struct Run {
     pub at: u32,
     pub kind: CType,
+    pub zero: bool,
     pub first: Boxed<Expr>,
     pub rest: Items<Link<Expr>>,
 }
 
-/// What stands right of `=`, or as a statement: an expression, or the call of a function.
+/// What stands right of `=`, or as a statement.
 #[derive(Debug, Drop)]
 pub enum Right {
     Value(Found),
     Result(Invocation),
+    Memory(Allocation),
 }
 
 /// A call: its first byte, the type of its result, the function's number and the values that are passed.
@@ -36,4 +52,19 @@ pub struct Invocation {
     pub kind: CType,
     pub function: usize,
     pub arguments: Items<Expr>,
+}
+
+/// A `malloc` at this place, perhaps with a cast before it.
+#[derive(Debug, Drop)]
+pub struct Allocation {
+    pub at: u32,
+    pub cast: Option<Cast>,
+    pub bytes: Found,
+}
+
+/// A cast at this place, to the type.
+#[derive(Clone, Copy, Debug)]
+pub struct Cast {
+    pub at: u32,
+    pub kind: CType,
 }

@@ -7,7 +7,7 @@ ghost use Rattle.c_rules.specs.Scope as names;
 ghost use Rattle.std.specs.Str.{bytes_eq};
 ghost use Rattle.indexmap.specs.IndexMap.{insert_entry};
 
-use c_kernel::CType;
+use c_kernel::ObjectType;
 use indexmap::IndexMap;
 use sqlite_items::Items;
 use std::alloc::{AllocError, Global};
@@ -25,7 +25,7 @@ pub enum Entity {
 #[derive(Debug, Drop)]
 pub struct Variable {
     pub number: usize,
-    pub kind: CType,
+    pub kind: ObjectType,
 }
 
 /// The names of the blocks around, the outermost first, and of the block itself; and the types of all variables of the function so far.
@@ -33,7 +33,7 @@ pub struct Variable {
 pub struct Scope {
     pub around: Vec<IndexMap<Vec<u8>, Entity>>,
     pub here: IndexMap<Vec<u8>, Entity>,
-    pub variables: Items<CType>,
+    pub variables: Items<ObjectType>,
 }
 
 impl Scope {
@@ -73,11 +73,16 @@ impl Scope {
     }
 
     /// Declares a variable.
-    pub fn declare(&mut self, alloc: Global, name: &[u8], kind: CType) -> Result<(), AllocError>
+    pub fn declare(
+        &mut self,
+        alloc: Global,
+        name: &[u8],
+        kind: ObjectType,
+    ) -> Result<(), AllocError>
         ensures { OnOk result (scope_of self.new ≡ names.declare (scope_of self.old) name.now kind) }
     {
         let number = self.variables.len();
-        self.variables.push(kind.clone()?)?;
+        self.variables.push(kind.copy(alloc)?)?;
         put(
             alloc,
             &mut self.here,

@@ -1,51 +1,121 @@
 //! Types, and the conversions of their values.
 
-ghost use Rattle.std.specs.Prelude.{◌≡◌, IfOk};
+ghost use Rattle.std.specs.Prelude.{◌≡◌, ◌++◌, ◌<◌, IfOk, OnOk, All};
+ghost use Rattle.std.specs.Option.{option_copied};
 ghost use Rattle.c_rules.specs.Types as types;
 
-use c_kernel::program::Expr;
-use c_kernel::{CType, IntegerType};
+use crate::fault::{Fault, rule};
+use c_kernel::program::{Expr, Scalar};
+use c_kernel::{Base, CType, IntegerType, ObjectType, Struct, extent_of};
+use c_tree::Kind;
 use c_tree::tree::{PlainType, TypeSpecifier};
-use sqlite_items::Boxed;
+use sqlite_items::{Boxed, Items};
 use std::alloc::{AllocError, Global};
 
+// ---- types as they are written
+
+/// The number of the first struct of a name.
+pub fn number_of(structs: &[Struct], name: &[u8]) -> Option<usize>
+    ensures { result ≡ types.number_of structs.now name.now }
+{
+    for (at, found) in structs.iter().enumerate() {
+        if found.name.as_slice() == name {
+            return Some(at);
+        }
+    }
+    None
+}
+
+/// The number of a struct, which may be the one that is being defined.
+pub fn known_number(structs: &[Struct], own: Option<&[u8]>, name: &[u8]) -> Option<usize>
+    ensures { result ≡ types.known_number structs.now (option_copied own.entry) name.now }
+{
+    match number_of(structs, name) {
+        Some(number) => Some(number),
+        None => match own {
+            None => None,
+            Some(own) => {
+                if own == name {
+                    Some(structs.len())
+                } else {
+                    None
+                }
+            }
+        },
+    }
+}
+
 /// Whether a type isn't built yet.
-pub fn is_unbuilt(specifier: &TypeSpecifier, stars: usize) -> bool
-    ensures { result ≡ types.is_unbuilt specifier.now stars }
+pub fn is_unbuilt(specifier: &TypeSpecifier) -> bool
+    ensures { result ≡ types.is_unbuilt specifier.now }
 {
     match specifier {
-        TypeSpecifier::Plain { plain, .. } => stars > 0 || is_unbuilt_word(*plain),
-        TypeSpecifier::Struct { .. } => true,
+        TypeSpecifier::Plain { plain, .. } => match plain {
+            PlainType::Status => true,
+            PlainType::Char | PlainType::Int | PlainType::Long | PlainType::Void => false,
+        },
+        TypeSpecifier::Struct { .. } => false,
     }
 }
 
-fn is_unbuilt_word(word: PlainType) -> bool
-    ensures { result ≡ types.is_unbuilt_word word }
+fn base_of_word(word: PlainType) -> Base
+    ensures { result ≡ types.base_of_word word }
 {
     match word {
-        PlainType::Char | PlainType::Int | PlainType::Long | PlainType::Void => false,
-        PlainType::Status => true,
+        PlainType::Char => Base::Integer(IntegerType::Char),
+        PlainType::Int => Base::Integer(IntegerType::Int),
+        PlainType::Long => Base::Integer(IntegerType::Long),
+        PlainType::Void | PlainType::Status => Base::Void,
     }
 }
 
-/// The type of a specifier that is built.
-pub fn type_of(specifier: &TypeSpecifier) -> CType
-    ensures { result ≡ types.type_of specifier.now }
+fn base_of(structs: &[Struct], own: Option<&[u8]>, specifier: &TypeSpecifier) -> Base
+    ensures { result ≡ types.base_of structs.now (option_copied own.entry) specifier.now }
 {
     match specifier {
-        TypeSpecifier::Plain { plain, .. } => type_of_word(*plain),
-        TypeSpecifier::Struct { .. } => CType::Void,
+        TypeSpecifier::Plain { plain, .. } => base_of_word(*plain),
+        TypeSpecifier::Struct { name, .. } => {
+            match known_number(structs, own, name.bytes.as_slice()) {
+                None => Base::Void,
+                Some(number) => Base::Struct(number),
+            }
+        }
     }
 }
 
-fn type_of_word(word: PlainType) -> CType
-    ensures { result ≡ types.type_of_word word }
+/// The type of a specifier with so many stars, perhaps inside the struct of the name `own`.
+pub fn type_of(
+    structs: &[Struct],
+    own: Option<&[u8]>,
+    specifier: &TypeSpecifier,
+    stars: usize,
+) -> CType
+    ensures { result ≡ types.type_of structs.now (option_copied own.entry) specifier.now stars }
 {
-    match word {
-        PlainType::Char => CType::Integer(IntegerType::Char),
-        PlainType::Int => CType::Integer(IntegerType::Int),
-        PlainType::Long => CType::Integer(IntegerType::Long),
-        PlainType::Void | PlainType::Status => CType::Void,
+    CType {
+        base: base_of(structs, own, specifier),
+        stars,
+    }
+}
+
+/// The rules of a specifier.
+pub fn note_specifier(
+    faults: &mut Vec<Fault>,
+    structs: &[Struct],
+    own: Option<&[u8]>,
+    specifier: &TypeSpecifier,
+) -> Result<(), AllocError>
+    ensures { OnOk result (faults.new.items ≡ faults.old.items ++ types.specifier_rules structs.now (option_copied own.entry) specifier.now) }
+{
+    if is_unbuilt(specifier) {
+        return rule(faults, true, Kind::NotYet, 0);
+    }
+    match specifier {
+        TypeSpecifier::Plain { .. } => Ok(()),
+        TypeSpecifier::Struct { name, .. } => {
+            let known = known_number(structs, own, name.bytes.as_slice());
+            rule(faults, known.is_none(), Kind::UnknownName, name.at)
+        }
     }
 }
 
@@ -59,44 +129,148 @@ pub fn place_of(specifier: &TypeSpecifier) -> u32
     }
 }
 
-/// Whether it is the type of numbers.
-pub fn is_integer(kind: &CType) -> bool
-    ensures { result ≡ types.is_integer kind.now }
+// ---- kinds of types
+
+fn is_number(base: Base) -> bool
+    ensures { result ≡ types.is_number base }
 {
-    match kind {
-        CType::Integer(_) => true,
-        CType::Void => false,
+    match base {
+        Base::Integer(_) => true,
+        Base::Void | Base::Struct(_) => false,
     }
+}
+
+fn is_void_base(base: Base) -> bool
+    ensures { result ≡ types.is_void_base base }
+{
+    match base {
+        Base::Void => true,
+        Base::Integer(_) | Base::Struct(_) => false,
+    }
+}
+
+fn is_struct_base(base: Base) -> bool
+    ensures { result ≡ types.is_struct_base base }
+{
+    match base {
+        Base::Struct(_) => true,
+        Base::Integer(_) | Base::Void => false,
+    }
+}
+
+pub fn is_pointer(kind: CType) -> bool
+    ensures { result ≡ types.is_pointer kind }
+{
+    kind.stars > 0
+}
+
+/// Whether its values are numbers.
+pub fn is_integer(kind: CType) -> bool
+    ensures { result ≡ types.is_integer kind }
+{
+    !is_pointer(kind) && is_number(kind.base)
 }
 
 /// Whether its values are numbers or pointers (C99 6.2.5).
-pub fn is_scalar(kind: &CType) -> bool
-    ensures { result ≡ types.is_scalar kind.now }
+pub fn is_scalar(kind: CType) -> bool
+    ensures { result ≡ types.is_scalar kind }
 {
-    match kind {
-        CType::Integer(_) => true,
-        CType::Void => false,
+    is_pointer(kind) || is_number(kind.base)
+}
+
+pub fn is_void(kind: CType) -> bool
+    ensures { result ≡ types.is_void kind }
+{
+    !is_pointer(kind) && is_void_base(kind.base)
+}
+
+pub fn is_struct(kind: CType) -> bool
+    ensures { result ≡ types.is_struct kind }
+{
+    !is_pointer(kind) && is_struct_base(kind.base)
+}
+
+/// Whether it is the type of `NULL`.
+pub fn is_null(kind: CType) -> bool
+    ensures { result ≡ types.is_null kind }
+{
+    is_pointer(kind) && is_void_base(kind.base)
+}
+
+/// Whether its values point to something.
+pub fn is_target(kind: CType) -> bool
+    ensures { result ≡ types.is_target kind }
+{
+    is_pointer(kind) && !is_void_base(kind.base)
+}
+
+/// The type of a pointer to it.
+pub fn pointer_to(kind: CType) -> CType
+    ensures { result ≡ types.pointer_to kind }
+{
+    CType {
+        base: kind.base,
+        stars: kind.stars.saturating_add(1),
     }
 }
 
-pub fn is_void(kind: &CType) -> bool
-    ensures { result ≡ types.is_void kind.now }
+/// What a pointer points to.
+pub fn target(kind: CType) -> CType
+    ensures { result ≡ types.target kind }
 {
-    match kind {
-        CType::Integer(_) => false,
-        CType::Void => true,
+    CType {
+        base: kind.base,
+        stars: kind.stars.saturating_sub(1),
+    }
+}
+
+pub fn integer(kind: IntegerType) -> CType
+    ensures { result ≡ types.integer kind }
+{
+    CType {
+        base: Base::Integer(kind),
+        stars: 0,
     }
 }
 
 /// The integer type that it is.
-pub fn integer_of(kind: &CType) -> IntegerType
-    ensures { result ≡ types.integer_of kind.now }
+pub fn integer_of(kind: CType) -> IntegerType
+    ensures { result ≡ types.integer_of kind }
 {
-    match kind {
-        CType::Integer(kind) => *kind,
-        CType::Void => IntegerType::Int,
+    match kind.base {
+        Base::Integer(kind) => kind,
+        Base::Void | Base::Struct(_) => IntegerType::Int,
     }
 }
+
+/// What a cell of the type is read as.
+pub fn scalar_of(kind: CType) -> Scalar
+    ensures { result ≡ types.scalar_of kind }
+{
+    if is_pointer(kind) {
+        Scalar::Pointer
+    } else {
+        Scalar::Number(integer_of(kind))
+    }
+}
+
+fn is_later(structs: &[Struct], base: Base) -> bool
+    ensures { result ≡ types.is_later structs.now base }
+{
+    match base {
+        Base::Integer(_) | Base::Void => false,
+        Base::Struct(number) => number >= structs.len(),
+    }
+}
+
+/// Whether no object is of it: void, a pointer to void, or by value a struct whose definition hasn't ended.
+pub fn is_incomplete(structs: &[Struct], kind: CType) -> bool
+    ensures { result ≡ types.is_incomplete structs.now kind }
+{
+    is_void_base(kind.base) || (!is_pointer(kind) && is_later(structs, kind.base))
+}
+
+// ---- equality
 
 pub fn same_integer(a: IntegerType, b: IntegerType) -> bool
     ensures { result ≡ types.same_integer a b }
@@ -109,14 +283,21 @@ pub fn same_integer(a: IntegerType, b: IntegerType) -> bool
     }
 }
 
-pub fn same_type(a: &CType, b: &CType) -> bool
-    ensures { result ≡ types.same_type a.now b.now }
+fn same_base(a: Base, b: Base) -> bool
+    ensures { result ≡ types.same_base a b }
 {
     match (a, b) {
-        (CType::Integer(a), CType::Integer(b)) => same_integer(*a, *b),
-        (CType::Void, CType::Void) => true,
+        (Base::Integer(a), Base::Integer(b)) => same_integer(a, b),
+        (Base::Void, Base::Void) => true,
+        (Base::Struct(a), Base::Struct(b)) => a == b,
         _ => false,
     }
+}
+
+pub fn same_type(a: CType, b: CType) -> bool
+    ensures { result ≡ types.same_type a b }
+{
+    same_base(a.base, b.base) && a.stars == b.stars
 }
 
 /// Whether two lists of types are equal.
@@ -128,7 +309,7 @@ pub fn same_types(a: &[CType], b: &[CType]) -> bool
         match rest {
             [] => return false,
             [u, more @ ..] => {
-                if !same_type(t, u) {
+                if !same_type(*t, *u) {
                     return false;
                 }
                 rest = more;
@@ -137,6 +318,120 @@ pub fn same_types(a: &[CType], b: &[CType]) -> bool
     }
     rest.is_empty()
 }
+
+// ---- objects
+
+pub fn is_array_size(n: u64) -> bool
+    ensures { result ≡ types.is_array_size n }
+{
+    0 < n && n <= 8192
+}
+
+/// How many cells an element of the type has.
+pub fn element_cells(structs: &[Struct], kind: CType) -> u32
+    ensures { result ≡ types.element_cells structs.now kind }
+{
+    extent_of(structs, kind).cells
+}
+
+/// The cells of arrays of these sizes, the outermost first, of elements with so many each; none, where a size isn't 1 to 8,192 or there are more than 8,192 cells.
+pub fn room(cells: u32, sizes: &[u64]) -> Option<u32>
+    ensures { result ≡ types.room cells sizes.now }
+{
+    let mut all = cells;
+    for n in sizes {
+        if all > 8192 {
+            return None;
+        }
+        if !is_array_size(*n) {
+            return None;
+        }
+        all *= *n as u32;
+    }
+    if all > 8192 { None } else { Some(all) }
+}
+
+/// The type of one object.
+pub fn one_object(alloc: Global, structs: &[Struct], element: CType) -> ObjectType
+    ensures { result ≡ types.one_object structs.now element }
+{
+    ObjectType {
+        element,
+        sizes: Items::new(alloc),
+        cells: element_cells(structs, element),
+    }
+}
+
+/// The type of arrays of these sizes; where they are too large, of an object that takes no room.
+pub fn object_type(
+    alloc: Global,
+    structs: &[Struct],
+    element: CType,
+    sizes: &[u64],
+) -> Result<ObjectType, AllocError>
+    ensures { IfOk result (λ kind. kind ≡ types.object_type structs.now element sizes.now) }
+{
+    match room(element_cells(structs, element), sizes) {
+        None => Ok(ObjectType {
+            element,
+            sizes: Items::new(alloc),
+            cells: 0,
+        }),
+        Some(cells) => Ok(ObjectType {
+            element,
+            sizes: narrowed(alloc, sizes)?,
+            cells,
+        }),
+    }
+}
+
+// Sizes of at most 8,192.
+fn narrowed(alloc: Global, sizes: &[u64]) -> Result<Items<u32>, AllocError>
+    requires { All (λ n. n < 8193) sizes.now }
+    ensures { IfOk result (λ narrow. narrow ≡ sizes.now) }
+{
+    let mut narrow = Items::new(alloc);
+    for n in sizes {
+        narrow.push(*n as u32)?;
+    }
+    Ok(narrow)
+}
+
+pub fn is_array(kind: &ObjectType) -> bool
+    ensures { result ≡ types.is_array kind.now }
+{
+    !kind.sizes.is_empty()
+}
+
+/// The type of an array's element; a single object is its own.
+pub fn element(alloc: Global, kind: &ObjectType) -> Result<ObjectType, AllocError>
+    ensures { IfOk result (λ element. element ≡ types.element kind.now) }
+{
+    match kind.sizes.as_slice() {
+        [] => kind.copy(alloc),
+        [size, inner @ ..] => Ok(ObjectType {
+            element: kind.element,
+            sizes: Items::from_slice(alloc, inner)?,
+            cells: kind.cells.checked_div(*size).unwrap_or(0),
+        }),
+    }
+}
+
+/// The type of an object's value (C99 6.3.2.1).
+pub fn value_type(kind: &ObjectType) -> CType
+    ensures { result ≡ types.value_type kind.now }
+{
+    match kind.sizes.as_slice() {
+        [] => kind.element,
+        [_] => pointer_to(kind.element),
+        _ => CType {
+            base: Base::Void,
+            stars: 0,
+        },
+    }
+}
+
+// ---- conversions
 
 /// The type at which a value computes (C99 6.3.1.1).
 pub fn promoted(kind: IntegerType) -> IntegerType

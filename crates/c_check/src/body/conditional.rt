@@ -9,8 +9,8 @@ use super::{guarded, statement};
 use crate::expression::gather;
 use crate::form::{arm_of, if_of, more};
 use crate::single::one;
-use c_kernel::CType;
 use c_kernel::program::{Arm as TypedArm, Stmt as Typed};
+use c_kernel::{CType, Struct};
 use c_rules::fault::Fault;
 use c_rules::scope::Scope;
 use c_rules::signature::Signature;
@@ -25,21 +25,23 @@ fn arm(
     alloc: Global,
     faults: &mut Vec<Fault>,
     functions: &IndexMap<Vec<u8>, Signature>,
+    structs: &[Struct],
     scope: &mut Scope,
-    result_type: &CType,
+    result_type: CType,
     looping: bool,
     body: &Stmt,
     test: &Expr,
 ) -> Result<Option<TypedArm<Typed>>, AllocError>
-    ensures found { IfOk result (λ found. found ≡ (walked_arm (called functions.now.entries) result_type.now looping test.now body.now (scope_of scope.old)).judged.found) }
-    ensures faults { OnOk result (faults.new.items ≡ faults.old.items ++ (walked_arm (called functions.now.entries) result_type.now looping test.now body.now (scope_of scope.old)).judged.faults) }
-    ensures scope { OnOk result (scope_of scope.new ≡ (walked_arm (called functions.now.entries) result_type.now looping test.now body.now (scope_of scope.old)).scope) }
+    ensures found { IfOk result (λ found. found ≡ (walked_arm (called functions.now.entries) structs.now result_type looping test.now body.now (scope_of scope.old)).judged.found) }
+    ensures faults { OnOk result (faults.new.items ≡ faults.old.items ++ (walked_arm (called functions.now.entries) structs.now result_type looping test.now body.now (scope_of scope.old)).judged.faults) }
+    ensures scope { OnOk result (scope_of scope.new ≡ (walked_arm (called functions.now.entries) structs.now result_type looping test.now body.now (scope_of scope.old)).scope) }
     ensures around { OnOk result ((scope_of scope.new).around ≡ (scope_of scope.old).around) }
 {
     let parts = guarded(
         alloc,
         faults,
         functions,
+        structs,
         scope,
         result_type,
         looping,
@@ -56,29 +58,40 @@ fn arms(
     alloc: Global,
     faults: &mut Vec<Fault>,
     functions: &IndexMap<Vec<u8>, Signature>,
+    structs: &[Struct],
     scope: &mut Scope,
-    result_type: &CType,
+    result_type: CType,
     looping: bool,
     then: &Stmt,
     test: &Expr,
     rest: &[Arm<Stmt>],
 ) -> Result<Option<Items<TypedArm<Typed>>>, AllocError>
-    ensures found { IfOk result (λ found. found ≡ (walked_arms (called functions.now.entries) result_type.now looping test.now then.now rest.now (scope_of scope.old)).judged.found) }
-    ensures faults { OnOk result (faults.new.items ≡ faults.old.items ++ (walked_arms (called functions.now.entries) result_type.now looping test.now then.now rest.now (scope_of scope.old)).judged.faults) }
-    ensures scope { OnOk result (scope_of scope.new ≡ (walked_arms (called functions.now.entries) result_type.now looping test.now then.now rest.now (scope_of scope.old)).scope) }
+    ensures found { IfOk result (λ found. found ≡ (walked_arms (called functions.now.entries) structs.now result_type looping test.now then.now rest.now (scope_of scope.old)).judged.found) }
+    ensures faults { OnOk result (faults.new.items ≡ faults.old.items ++ (walked_arms (called functions.now.entries) structs.now result_type looping test.now then.now rest.now (scope_of scope.old)).judged.faults) }
+    ensures scope { OnOk result (scope_of scope.new ≡ (walked_arms (called functions.now.entries) structs.now result_type looping test.now then.now rest.now (scope_of scope.old)).scope) }
     ensures around { OnOk result ((scope_of scope.new).around ≡ (scope_of scope.old).around) }
 {
     let first = arm(
         alloc,
         faults,
         functions,
+        structs,
         scope,
         result_type,
         looping,
         then,
         test,
     )?;
-    let later = later_arms(alloc, faults, functions, scope, result_type, looping, rest)?;
+    let later = later_arms(
+        alloc,
+        faults,
+        functions,
+        structs,
+        scope,
+        result_type,
+        looping,
+        rest,
+    )?;
     more(alloc, first, later)
 }
 
@@ -89,14 +102,15 @@ fn later_arms(
     alloc: Global,
     faults: &mut Vec<Fault>,
     functions: &IndexMap<Vec<u8>, Signature>,
+    structs: &[Struct],
     scope: &mut Scope,
-    result_type: &CType,
+    result_type: CType,
     looping: bool,
     rest: &[Arm<Stmt>],
 ) -> Result<Option<Items<TypedArm<Typed>>>, AllocError>
-    ensures found { IfOk result (λ found. found ≡ (walked_later (called functions.now.entries) result_type.now looping rest.now (scope_of scope.old)).judged.found) }
-    ensures faults { OnOk result (faults.new.items ≡ faults.old.items ++ (walked_later (called functions.now.entries) result_type.now looping rest.now (scope_of scope.old)).judged.faults) }
-    ensures scope { OnOk result (scope_of scope.new ≡ (walked_later (called functions.now.entries) result_type.now looping rest.now (scope_of scope.old)).scope) }
+    ensures found { IfOk result (λ found. found ≡ (walked_later (called functions.now.entries) structs.now result_type looping rest.now (scope_of scope.old)).judged.found) }
+    ensures faults { OnOk result (faults.new.items ≡ faults.old.items ++ (walked_later (called functions.now.entries) structs.now result_type looping rest.now (scope_of scope.old)).judged.faults) }
+    ensures scope { OnOk result (scope_of scope.new ≡ (walked_later (called functions.now.entries) structs.now result_type looping rest.now (scope_of scope.old)).scope) }
     ensures around { OnOk result ((scope_of scope.new).around ≡ (scope_of scope.old).around) }
 {
     let mut found = Some(Items::new(alloc));
@@ -105,6 +119,7 @@ fn later_arms(
             alloc,
             faults,
             functions,
+            structs,
             scope,
             result_type,
             looping,
@@ -122,14 +137,15 @@ fn last_branch(
     alloc: Global,
     faults: &mut Vec<Fault>,
     functions: &IndexMap<Vec<u8>, Signature>,
+    structs: &[Struct],
     scope: &mut Scope,
-    result_type: &CType,
+    result_type: CType,
     looping: bool,
     body: &Option<Boxed<Stmt>>,
 ) -> Result<Option<Items<Typed>>, AllocError>
-    ensures found { IfOk result (λ found. found ≡ (walked_last (called functions.now.entries) result_type.now looping body.now (scope_of scope.old)).judged.found) }
-    ensures faults { OnOk result (faults.new.items ≡ faults.old.items ++ (walked_last (called functions.now.entries) result_type.now looping body.now (scope_of scope.old)).judged.faults) }
-    ensures scope { OnOk result (scope_of scope.new ≡ (walked_last (called functions.now.entries) result_type.now looping body.now (scope_of scope.old)).scope) }
+    ensures found { IfOk result (λ found. found ≡ (walked_last (called functions.now.entries) structs.now result_type looping body.now (scope_of scope.old)).judged.found) }
+    ensures faults { OnOk result (faults.new.items ≡ faults.old.items ++ (walked_last (called functions.now.entries) structs.now result_type looping body.now (scope_of scope.old)).judged.faults) }
+    ensures scope { OnOk result (scope_of scope.new ≡ (walked_last (called functions.now.entries) structs.now result_type looping body.now (scope_of scope.old)).scope) }
     ensures around { OnOk result ((scope_of scope.new).around ≡ (scope_of scope.old).around) }
 {
     match body {
@@ -139,6 +155,7 @@ fn last_branch(
                 alloc,
                 faults,
                 functions,
+                structs,
                 scope,
                 result_type,
                 looping,
@@ -158,23 +175,25 @@ pub fn branches(
     alloc: Global,
     faults: &mut Vec<Fault>,
     functions: &IndexMap<Vec<u8>, Signature>,
+    structs: &[Struct],
     scope: &mut Scope,
-    result_type: &CType,
+    result_type: CType,
     looping: bool,
     then: &Boxed<Stmt>,
     test: &Expr,
     rest: &Items<Arm<Stmt>>,
     last: &Option<Boxed<Stmt>>,
 ) -> Result<Option<Typed>, AllocError>
-    ensures found { IfOk result (λ found. found ≡ (walked_branches (called functions.now.entries) result_type.now looping test.now then.now rest.now last.now (scope_of scope.old)).judged.found) }
-    ensures faults { OnOk result (faults.new.items ≡ faults.old.items ++ (walked_branches (called functions.now.entries) result_type.now looping test.now then.now rest.now last.now (scope_of scope.old)).judged.faults) }
-    ensures scope { OnOk result (scope_of scope.new ≡ (walked_branches (called functions.now.entries) result_type.now looping test.now then.now rest.now last.now (scope_of scope.old)).scope) }
+    ensures found { IfOk result (λ found. found ≡ (walked_branches (called functions.now.entries) structs.now result_type looping test.now then.now rest.now last.now (scope_of scope.old)).judged.found) }
+    ensures faults { OnOk result (faults.new.items ≡ faults.old.items ++ (walked_branches (called functions.now.entries) structs.now result_type looping test.now then.now rest.now last.now (scope_of scope.old)).judged.faults) }
+    ensures scope { OnOk result (scope_of scope.new ≡ (walked_branches (called functions.now.entries) structs.now result_type looping test.now then.now rest.now last.now (scope_of scope.old)).scope) }
     ensures around { OnOk result ((scope_of scope.new).around ≡ (scope_of scope.old).around) }
 {
     let found = arms(
         alloc,
         faults,
         functions,
+        structs,
         scope,
         result_type,
         looping,
@@ -182,6 +201,15 @@ pub fn branches(
         test,
         rest.as_slice(),
     )?;
-    let last = last_branch(alloc, faults, functions, scope, result_type, looping, last)?;
+    let last = last_branch(
+        alloc,
+        faults,
+        functions,
+        structs,
+        scope,
+        result_type,
+        looping,
+        last,
+    )?;
     Ok(if_of(found, last))
 }

@@ -1,6 +1,6 @@
 ghost use Rattle.std.specs.Prelude.{◌≡◌, IfOk};
 
-use super::{Expr, Link};
+use super::{Expr, Link, Place, Root, Selection};
 use sqlite_items::{Boxed, Items};
 use std::alloc::{AllocError, Global};
 
@@ -15,11 +15,12 @@ impl Expr {
                 value: *value,
                 kind: *kind,
             }),
-            Expr::Variable(number) => Ok(Expr::Variable(*number)),
+            Expr::Null => Ok(Expr::Null),
             Expr::Load { place, kind } => Ok(Expr::Load {
-                place: boxed(alloc, place)?,
+                place: place.copy(alloc)?,
                 kind: *kind,
             }),
+            Expr::Address(place) => Ok(Expr::Address(place.copy(alloc)?)),
             Expr::Convert { kind, operand } => Ok(Expr::Convert {
                 kind: *kind,
                 operand: boxed(alloc, operand)?,
@@ -48,6 +49,61 @@ impl Expr {
                 otherwise: boxed(alloc, otherwise)?,
             }),
         }
+    }
+}
+
+impl Place<Expr> {
+    /// An equal place.
+    #[cycle(duplicate)]
+    pub fn copy(&self, alloc: Global) -> Result<Place<Expr>, AllocError>
+        ensures { IfOk result (λ copy. copy ≡ self.now) }
+    {
+        Ok(Place {
+            root: root(alloc, &self.root)?,
+            steps: steps(alloc, self.steps.as_slice())?,
+        })
+    }
+}
+
+#[cycle(duplicate)]
+fn root(alloc: Global, root: &Root<Expr>) -> Result<Root<Expr>, AllocError>
+    ensures { IfOk result (λ copy. copy ≡ root.now) }
+{
+    match root {
+        Root::Variable(number) => Ok(Root::Variable(*number)),
+        Root::Target(pointer) => Ok(Root::Target(boxed(alloc, pointer)?)),
+    }
+}
+
+#[cycle(duplicate)]
+fn steps(alloc: Global, steps: &[Selection<Expr>]) -> Result<Items<Selection<Expr>>, AllocError>
+    ensures { IfOk result (λ copy. copy ≡ steps.now) }
+{
+    let mut copies = Items::new(alloc);
+    for step in steps {
+        copies.push(selection(alloc, step)?)?;
+    }
+    Ok(copies)
+}
+
+#[cycle(duplicate)]
+fn selection(alloc: Global, step: &Selection<Expr>) -> Result<Selection<Expr>, AllocError>
+    ensures { IfOk result (λ copy. copy ≡ step.now) }
+{
+    match step {
+        Selection::Element { index, cells } => Ok(Selection::Element {
+            index: index.copy(alloc)?,
+            cells: *cells,
+        }),
+        Selection::Member {
+            structure,
+            member,
+            place,
+        } => Ok(Selection::Member {
+            structure: *structure,
+            member: *member,
+            place: *place,
+        }),
     }
 }
 

@@ -1,4 +1,4 @@
-use super::{Arithmetic, BinaryOperator, Expr, Link};
+use super::{Arithmetic, BinaryOperator, Expr, Link, Place, Root, Scalar};
 use crate::IntegerType;
 use sqlite_items::{Boxed, Items};
 use std::test::*;
@@ -7,8 +7,11 @@ use std::test::*;
 #[test]
 fn a_copy_has_the_links(rt: HostRuntime) -> Result<(), Fail> {
     let alloc = rt.alloc();
-    let place = Boxed::new(alloc, Expr::Variable(3))?;
-    let kind = IntegerType::Int;
+    let place = Place {
+        root: Root::Variable(3),
+        steps: Items::new(alloc),
+    };
+    let kind = Scalar::Number(IntegerType::Int);
     let first = Boxed::new(alloc, Expr::Load { place, kind })?;
     let kind = IntegerType::Long;
     let operator = Arithmetic::Add;

@@ -49,8 +49,8 @@ decreases-for_loop l = 16 * goal.size-for_loop l + 2
 abbrev pub invariant-block_items-loop-item : goal.invariant-block_items-loop-item
 invariant-block_items-loop-item l =
     let f = called l.functions.entries in
-    let rest = walked_items f l.result_type l.looping (drop l.item-index l.items) (scope_of l.scope) in
-    let whole = walked_items f l.result_type l.looping l.items (scope_of l.fn.scope) in
+    let rest = walked_items f l.structs l.result_type l.looping (drop l.item-index l.items) (scope_of l.scope) in
+    let whole = walked_items f l.structs l.result_type l.looping l.items (scope_of l.fn.scope) in
     record {
       found : joined l.found rest.judged.found ≡ whole.judged.found;
       faults : l.faults.items ++ rest.judged.faults ≡ l.fn.faults.items ++ whole.judged.faults;
@@ -61,8 +61,8 @@ invariant-block_items-loop-item l =
 abbrev pub invariant-conditional::later_arms-loop-x : goal.invariant-conditional::later_arms-loop-x
 invariant-conditional::later_arms-loop-x l =
     let f = called l.functions.entries in
-    let rest = walked_later f l.result_type l.looping (drop l.x-index l.rest) (scope_of l.scope) in
-    let whole = walked_later f l.result_type l.looping l.rest (scope_of l.fn.scope) in
+    let rest = walked_later f l.structs l.result_type l.looping (drop l.x-index l.rest) (scope_of l.scope) in
+    let whole = walked_later f l.structs l.result_type l.looping l.rest (scope_of l.fn.scope) in
     record {
       found : joined l.found rest.judged.found ≡ whole.judged.found;
       faults : l.faults.items ++ rest.judged.faults ≡ l.fn.faults.items ++ whole.judged.faults;

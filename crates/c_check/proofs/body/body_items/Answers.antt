@@ -9,14 +9,14 @@ use Rattle.c_check.proofs.body.body_items.Goals as goal
 pub returns-clause-found : goal.returns-clause-found
 returns-clause-found c =
     subst (λ (w : Walked (List Typed)). IfOk c.block_items.result (λ found. found ≡ w.judged.found))
-    (in_body (called c.args.functions.now.entries) c.args.result_type.now c.args.items.now (scope_of c.args.scope.now)) c.block_items.ensures.found
+    (in_body (called c.args.functions.now.entries) c.args.structs.now c.args.result_type c.args.items.now (scope_of c.args.scope.now)) c.block_items.ensures.found
 
 pub returns-clause-faults : goal.returns-clause-faults
 returns-clause-faults c =
     subst (λ (w : Walked (List Typed)). OnOk c.block_items.result (c.block_items.new.faults.items ≡ c.args.faults.now.items ++ w.judged.faults))
-    (in_body (called c.args.functions.now.entries) c.args.result_type.now c.args.items.now (scope_of c.args.scope.now)) c.block_items.ensures.faults
+    (in_body (called c.args.functions.now.entries) c.args.structs.now c.args.result_type c.args.items.now (scope_of c.args.scope.now)) c.block_items.ensures.faults
 
 pub returns-clause-scope : goal.returns-clause-scope
 returns-clause-scope c =
     subst (λ (w : Walked (List Typed)). OnOk c.block_items.result (scope_of c.block_items.new.scope ≡ w.scope))
-    (in_body (called c.args.functions.now.entries) c.args.result_type.now c.args.items.now (scope_of c.args.scope.now)) c.block_items.ensures.scope
+    (in_body (called c.args.functions.now.entries) c.args.structs.now c.args.result_type c.args.items.now (scope_of c.args.scope.now)) c.block_items.ensures.scope

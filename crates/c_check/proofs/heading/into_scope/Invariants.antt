@@ -7,6 +7,6 @@ abbrev pub invariant-loop-p : goal.invariant-loop-p
 invariant-loop-p l =
     let rest = drop l.p-index l.parameters in
     record {
-      scope : with_parameters l.main (scope_of l.scope) rest ≡ with_parameters l.main start l.parameters;
-      faults : l.faults.items ++ parameters_rules l.main l.defined (scope_of l.scope) rest ≡ l.fn.faults.items ++ parameters_rules l.main l.defined start l.parameters;
+      scope : with_parameters l.structs l.main (scope_of l.scope) rest ≡ with_parameters l.structs l.main start l.parameters;
+      faults : l.faults.items ++ parameters_rules l.structs l.main l.defined (scope_of l.scope) rest ≡ l.fn.faults.items ++ parameters_rules l.structs l.main l.defined start l.parameters;
     }

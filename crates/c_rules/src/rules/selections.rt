@@ -1,0 +1,292 @@
+//! What is selected: elements and members (C99 6.5.2.1, 6.5.2.3).
+
+ghost use Rattle.std.specs.Prelude.{◌≡◌, ◌++◌, ◌&&◌, not, IfOk, OnOk, option_map};
+ghost use Rattle.std.specs.Str.{bytes_eq};
+ghost use Rattle.c_tree.specs.declared.kind.Kind.TheVariants.{NotStruct};
+ghost use Rattle.c_rules.specs.Judged.{breaks};
+ghost use Rattle.c_rules.specs.Rules as rules;
+ghost use Rattle.c_rules.specs.Types as types;
+
+use crate::fault::{Fault, rule};
+use crate::found::{Form, Found};
+use crate::rules::values::{
+    element_place, kind_of, note_pointer, number, place, step_to, target_place, value, value_at,
+    zero,
+};
+use crate::types::{
+    element, element_cells, integer, is_array, is_struct, is_target, one_object, target, value_type,
+};
+use c_kernel::program::{Expr, Place, Selection};
+use c_kernel::{Base, CType, Member, ObjectType, Struct};
+use c_tree::Kind;
+use c_tree::tree::MemberName;
+use sqlite_items::Boxed;
+use std::alloc::{AllocError, Global};
+
+fn is_array_found(a: &Found) -> bool
+    ensures { result ≡ rules.is_array_found a.now }
+{
+    match &a.form {
+        Form::Zero(_) | Form::Value { .. } => false,
+        Form::Place { kind, .. } => is_array(kind),
+    }
+}
+
+fn note_base(faults: &mut Vec<Fault>, a: &Found) -> Result<(), AllocError>
+    ensures { OnOk result (faults.new.items ≡ faults.old.items ++ rules.base_rules a.now) }
+{
+    if is_array_found(a) {
+        return Ok(());
+    }
+    note_pointer(faults, a.at, kind_of(a))
+}
+
+// An element of an array.
+fn element_of_array(
+    alloc: Global,
+    at: u32,
+    kind: ObjectType,
+    array: Boxed<Place<Expr>>,
+    index: Boxed<Expr>,
+) -> Result<Found, AllocError>
+    ensures { IfOk result (λ found. found ≡ rules.place at (types.element kind) (rules.element_place kind array index)) }
+{
+    let inner = element_place(alloc, &kind, array.into_inner(), index.into_inner())?;
+    Ok(place(at, element(alloc, &kind)?, Boxed::new(alloc, inner)?))
+}
+
+// An element from where a pointer points on.
+fn element_from(
+    alloc: Global,
+    structs: &[Struct],
+    at: u32,
+    kind: CType,
+    pointer: Boxed<Expr>,
+    index: Boxed<Expr>,
+) -> Result<Found, AllocError>
+    ensures { IfOk result (λ found. found ≡ rules.place at (types.one_object structs.now kind) (rules.step_to (rules.target_place pointer) (Selection.Element index (types.element_cells structs.now kind)))) }
+{
+    let step = Selection::Element {
+        index: index.into_inner(),
+        cells: element_cells(structs, kind),
+    };
+    let inner = step_to(target_place(alloc, pointer), step)?;
+    Ok(place(
+        at,
+        one_object(alloc, structs, kind),
+        Boxed::new(alloc, inner)?,
+    ))
+}
+
+// An element of an array, or from where the pointer that is read at a place points on.
+fn element_at(
+    alloc: Global,
+    structs: &[Struct],
+    at: u32,
+    kind: ObjectType,
+    place: Boxed<Place<Expr>>,
+    index: Boxed<Expr>,
+) -> Result<Found, AllocError>
+    ensures { IfOk result (λ found. found ≡ rules.element_found structs.now (rules.place at kind place) index) }
+{
+    if is_array(&kind) {
+        return element_of_array(alloc, at, kind, place, index);
+    }
+    let inner = target(value_type(&kind));
+    let pointer = value_at(alloc, kind, place)?;
+    element_from(alloc, structs, at, inner, pointer, index)
+}
+
+fn element_found(
+    alloc: Global,
+    structs: &[Struct],
+    a: Found,
+    index: Boxed<Expr>,
+) -> Result<Found, AllocError>
+    ensures { IfOk result (λ found. found ≡ rules.element_found structs.now a index) }
+{
+    let at = a.at;
+    match a.form {
+        Form::Zero(kind) => {
+            let inner = target(integer(kind));
+            element_from(alloc, structs, at, inner, zero(alloc, kind)?, index)
+        }
+        Form::Value { kind, term } => element_from(alloc, structs, at, target(kind), term, index),
+        Form::Place { kind, place } => element_at(alloc, structs, at, kind, place, index),
+    }
+}
+
+/// `a[i]`.
+#[tactic(auto, using(std::proofs::Common::append_assoc), unfolding(crate::specs::Rules::index))]
+pub fn index(
+    alloc: Global,
+    faults: &mut Vec<Fault>,
+    structs: &[Struct],
+    a: Found,
+    i: Found,
+) -> Result<Option<Found>, AllocError>
+    ensures found { IfOk result (λ found. found ≡ (rules.index structs.now a i).found) }
+    ensures faults { OnOk result (faults.new.items ≡ faults.old.items ++ (rules.index structs.now a i).faults) }
+{
+    let before = faults.len();
+    note_base(faults, &a)?;
+    number(faults, i.at, kind_of(&i))?;
+    if faults.len() > before {
+        return Ok(None);
+    }
+    let i = value(alloc, i)?;
+    Ok(Some(element_found(alloc, structs, a, i)?))
+}
+
+// A member by its name, with its number.
+fn numbered<'m>(members: &'m [Member], name: &MemberName) -> Option<(usize, &'m Member)>
+    ensures { option_map (λ found. (found.0, found.1.now)) result ≡ types.numbered 0 members.now (types.member_bytes name.now) }
+{
+    for (at, member) in members.iter().enumerate() {
+        if is_named(member, name) {
+            return Some((at, member));
+        }
+    }
+    None
+}
+
+/// Whether a member has this name.
+pub fn is_named(member: &Member, name: &MemberName) -> bool
+    ensures { result ≡ bytes_eq member.now.name (types.member_bytes name.now) }
+{
+    match name {
+        MemberName::Name(name) => member.name.as_slice() == name.bytes.as_slice(),
+        MemberName::Source(_) => member.name.as_slice() == b"MPI_SOURCE".as_slice(),
+        MemberName::Tag(_) => member.name.as_slice() == b"MPI_TAG".as_slice(),
+    }
+}
+
+/// The first byte of a member's name.
+pub fn member_at(name: &MemberName) -> u32
+    ensures { result ≡ types.member_at name.now }
+{
+    match name {
+        MemberName::Name(name) => name.at,
+        MemberName::Source(at) => *at,
+        MemberName::Tag(at) => *at,
+    }
+}
+
+// A member of a struct, with both numbers.
+fn member_in<'s>(
+    structs: &'s [Struct],
+    kind: CType,
+    name: &MemberName,
+) -> Option<(usize, (usize, &'s Member))>
+    ensures { option_map (λ found. (found.0, (found.1.0, found.1.1.now))) result ≡ rules.member_in structs.now kind (types.member_bytes name.now) }
+{
+    match kind.base {
+        Base::Integer(_) | Base::Void => None,
+        Base::Struct(number) => match structs.get(number) {
+            None => None,
+            Some(found) => match numbered(found.members.as_slice(), name) {
+                None => None,
+                Some(member) => Some((number, member)),
+            },
+        },
+    }
+}
+
+// A member of what stands at a place.
+fn selected(
+    alloc: Global,
+    faults: &mut Vec<Fault>,
+    structs: &[Struct],
+    at: u32,
+    kind: CType,
+    whole: Place<Expr>,
+    name: &MemberName,
+) -> Result<Option<Found>, AllocError>
+    ensures found { IfOk result (λ found. found ≡ (rules.selected structs.now at kind whole name.now).found) }
+    ensures faults { OnOk result (faults.new.items ≡ faults.old.items ++ (rules.selected structs.now at kind whole name.now).faults) }
+{
+    match member_in(structs, kind, name) {
+        None => {
+            rule(faults, true, Kind::UnknownName, member_at(name))?;
+            Ok(None)
+        }
+        Some((structure, (member, found))) => {
+            let step = Selection::Member {
+                structure,
+                member,
+                place: found.place,
+            };
+            let inner = Boxed::new(alloc, step_to(whole, step)?)?;
+            Ok(Some(place(at, found.kind.copy(alloc)?, inner)))
+        }
+    }
+}
+
+// The struct that is a place.
+fn struct_place(a: Found) -> Option<(CType, Place<Expr>)>
+    ensures { result ≡ rules.struct_place a }
+{
+    match a.form {
+        Form::Zero(_) | Form::Value { .. } => None,
+        Form::Place { kind, place } => {
+            if !is_array(&kind) && is_struct(kind.element) {
+                Some((kind.element, place.into_inner()))
+            } else {
+                None
+            }
+        }
+    }
+}
+
+/// `a.name`.
+#[tactic(auto, unfolding(crate::specs::Rules::dot))]
+pub fn dot(
+    alloc: Global,
+    faults: &mut Vec<Fault>,
+    structs: &[Struct],
+    a: Found,
+    name: &MemberName,
+) -> Result<Option<Found>, AllocError>
+    ensures found { IfOk result (λ found. found ≡ (rules.dot structs.now a name.now).found) }
+    ensures faults { OnOk result (faults.new.items ≡ faults.old.items ++ (rules.dot structs.now a name.now).faults) }
+{
+    let at = a.at;
+    match struct_place(a) {
+        None => {
+            rule(faults, true, Kind::NotStruct, at)?;
+            Ok(None)
+        }
+        Some((kind, whole)) => selected(alloc, faults, structs, at, kind, whole, name),
+    }
+}
+
+fn note_arrow(faults: &mut Vec<Fault>, at: u32, kind: CType) -> Result<(), AllocError>
+    ensures { OnOk result (faults.new.items ≡ faults.old.items ++ (rules.pointer_rules at kind ++ breaks (types.is_target kind && not (types.is_struct (types.target kind))) NotStruct at)) }
+{
+    note_pointer(faults, at, kind)?;
+    let other = is_target(kind) && !is_struct(target(kind));
+    rule(faults, other, Kind::NotStruct, at)
+}
+
+/// `a->name`.
+#[tactic(auto, using(std::proofs::Common::append_assoc), unfolding(crate::specs::Rules::arrow))]
+pub fn arrow(
+    alloc: Global,
+    faults: &mut Vec<Fault>,
+    structs: &[Struct],
+    a: Found,
+    name: &MemberName,
+) -> Result<Option<Found>, AllocError>
+    ensures found { IfOk result (λ found. found ≡ (rules.arrow structs.now a name.now).found) }
+    ensures faults { OnOk result (faults.new.items ≡ faults.old.items ++ (rules.arrow structs.now a name.now).faults) }
+{
+    let at = a.at;
+    let kind = kind_of(&a);
+    let before = faults.len();
+    note_arrow(faults, at, kind)?;
+    if faults.len() > before {
+        return Ok(None);
+    }
+    let whole = target_place(alloc, value(alloc, a)?);
+    selected(alloc, faults, structs, at, target(kind), whole, name)
+}

@@ -1,0 +1,260 @@
+//! What is found, and its value.
+
+ghost use Rattle.std.specs.Prelude.{◌≡◌, ◌++◌, IfOk, OnOk};
+ghost use Rattle.c_rules.specs.Rules as rules;
+ghost use Rattle.c_rules.specs.Types as types;
+
+use crate::fault::{Fault, rule};
+use crate::found::{Form, Found};
+use crate::types::{
+    converted, element, integer, integer_of, is_array, is_integer, is_null, is_pointer, is_scalar,
+    is_target, same_type, scalar_of, value_type,
+};
+use c_kernel::program::{Expr, Place, Root, Selection};
+use c_kernel::{Base, CType, IntegerType, ObjectType};
+use c_tree::Kind;
+use sqlite_items::{Boxed, Items};
+use std::alloc::{AllocError, Global};
+
+/// An expression that is no place.
+pub fn plain(at: u32, kind: CType, term: Boxed<Expr>) -> Found
+    ensures { result ≡ rules.plain at kind term }
+{
+    Found {
+        at,
+        form: Form::Value { kind, term },
+    }
+}
+
+/// A place, with the type of what stands there.
+pub fn place(at: u32, kind: ObjectType, place: Boxed<Place<Expr>>) -> Found
+    ensures { result ≡ rules.place at kind place }
+{
+    Found {
+        at,
+        form: Form::Place { kind, place },
+    }
+}
+
+/// The type of its value.
+pub fn kind_of(a: &Found) -> CType
+    ensures { result ≡ rules.kind_of a.now }
+{
+    match &a.form {
+        Form::Zero(kind) => integer(*kind),
+        Form::Value { kind, .. } => *kind,
+        Form::Place { kind, .. } => value_type(kind),
+    }
+}
+
+/// Whether it is the literal 0.
+pub fn is_zero(a: &Found) -> bool
+    ensures { result ≡ rules.is_zero a.now }
+{
+    match &a.form {
+        Form::Zero(_) => true,
+        Form::Value { .. } | Form::Place { .. } => false,
+    }
+}
+
+/// The place of a variable.
+pub fn variable(alloc: Global, number: usize) -> Place<Expr>
+    ensures { result ≡ rules.variable number }
+{
+    Place {
+        root: Root::Variable(number),
+        steps: Items::new(alloc),
+    }
+}
+
+/// The place that a pointer points to.
+pub fn target_place(alloc: Global, pointer: Boxed<Expr>) -> Place<Expr>
+    ensures { result ≡ rules.target_place pointer }
+{
+    Place {
+        root: Root::Target(pointer),
+        steps: Items::new(alloc),
+    }
+}
+
+/// What is selected at a place.
+pub fn step_to(place: Place<Expr>, step: Selection<Expr>) -> Result<Place<Expr>, AllocError>
+    ensures { IfOk result (λ next. next ≡ rules.step_to place step) }
+{
+    let Place { root, mut steps } = place;
+    steps.push(step)?;
+    Ok(Place { root, steps })
+}
+
+/// The place of an array's element.
+pub fn element_place(
+    alloc: Global,
+    kind: &ObjectType,
+    place: Place<Expr>,
+    index: Expr,
+) -> Result<Place<Expr>, AllocError>
+    ensures { IfOk result (λ next. next ≡ rules.element_place kind.now place index) }
+{
+    let cells = element(alloc, kind)?.cells;
+    step_to(place, Selection::Element { index, cells })
+}
+
+/// What stands at a place.
+pub fn value_at(
+    alloc: Global,
+    kind: ObjectType,
+    place: Boxed<Place<Expr>>,
+) -> Result<Boxed<Expr>, AllocError>
+    ensures { IfOk result (λ e. e ≡ rules.value_at kind place) }
+{
+    if is_array(&kind) {
+        let zero = Expr::Number {
+            value: 0,
+            kind: IntegerType::Int,
+        };
+        let first = element_place(alloc, &kind, place.into_inner(), zero)?;
+        return Boxed::new(alloc, Expr::Address(first));
+    }
+    Boxed::new(
+        alloc,
+        Expr::Load {
+            place: place.into_inner(),
+            kind: scalar_of(kind.element),
+        },
+    )
+}
+
+/// The literal 0 as a number.
+pub fn zero(alloc: Global, kind: IntegerType) -> Result<Boxed<Expr>, AllocError>
+    ensures { IfOk result (λ e. e ≡ Expr.Number 0 kind) }
+{
+    Boxed::new(alloc, Expr::Number { value: 0, kind })
+}
+
+/// The value of an expression.
+pub fn value(alloc: Global, a: Found) -> Result<Boxed<Expr>, AllocError>
+    ensures { IfOk result (λ e. e ≡ rules.value a) }
+{
+    match a.form {
+        Form::Zero(kind) => zero(alloc, kind),
+        Form::Value { term, .. } => Ok(term),
+        Form::Place { kind, place } => value_at(alloc, kind, place),
+    }
+}
+
+/// The value of an expression in an integer type.
+pub fn value_in(alloc: Global, kind: IntegerType, a: Found) -> Result<Boxed<Expr>, AllocError>
+    ensures { IfOk result (λ e. e ≡ rules.value_in kind a) }
+{
+    let from = integer_of(kind_of(&a));
+    converted(alloc, kind, from, value(alloc, a)?)
+}
+
+/// The value of an expression where it is to be a pointer.
+pub fn pointer(alloc: Global, a: Found) -> Result<Boxed<Expr>, AllocError>
+    ensures { IfOk result (λ e. e ≡ rules.pointer_value a) }
+{
+    if is_zero(&a) {
+        Boxed::new(alloc, Expr::Null)
+    } else {
+        value(alloc, a)
+    }
+}
+
+/// The value of an expression in a type.
+pub fn value_as(alloc: Global, kind: CType, a: Found) -> Result<Boxed<Expr>, AllocError>
+    ensures { IfOk result (λ e. e ≡ rules.value_as kind a) }
+{
+    if is_pointer(kind) {
+        pointer(alloc, a)
+    } else {
+        value_in(alloc, integer_of(kind), a)
+    }
+}
+
+/// Where a number or pointer is needed.
+pub fn scalar(faults: &mut Vec<Fault>, at: u32, kind: CType) -> Result<(), AllocError>
+    ensures { OnOk result (faults.new.items ≡ faults.old.items ++ rules.scalar_rules at kind) }
+{
+    rule(faults, !is_scalar(kind), Kind::NotScalar, at)
+}
+
+/// Where a number is needed.
+#[tactic(auto, using(std::proofs::Common::append_assoc))]
+pub fn number(faults: &mut Vec<Fault>, at: u32, kind: CType) -> Result<(), AllocError>
+    ensures { OnOk result (faults.new.items ≡ faults.old.items ++ rules.number_rules at kind) }
+{
+    scalar(faults, at, kind)?;
+    rule(faults, !is_integer(kind), Kind::NotInteger, at)
+}
+
+/// Where a pointer to something is needed.
+#[tactic(auto, using(std::proofs::Common::append_assoc))]
+pub fn note_pointer(faults: &mut Vec<Fault>, at: u32, kind: CType) -> Result<(), AllocError>
+    ensures { OnOk result (faults.new.items ≡ faults.old.items ++ rules.pointer_rules at kind) }
+{
+    scalar(faults, at, kind)?;
+    rule(faults, !is_target(kind), Kind::NotPointer, at)
+}
+
+fn are_alike(t: CType, u: CType) -> bool
+    ensures { result ≡ rules.are_alike t u }
+{
+    same_type(t, u) || is_null(t) || is_null(u)
+}
+
+/// Whether a value of the second type, which may be the literal 0, can't stand where one of the first is needed.
+pub fn clash(t: CType, zero: bool, u: CType) -> bool
+    ensures { result ≡ rules.clash t zero u }
+{
+    if is_pointer(t) {
+        is_scalar(u) && !(zero || (is_pointer(u) && are_alike(t, u)))
+    } else {
+        is_integer(t) && is_pointer(u)
+    }
+}
+
+/// Where a value of a type is needed.
+#[tactic(auto, using(std::proofs::Common::append_assoc))]
+pub fn note_value(faults: &mut Vec<Fault>, kind: CType, a: &Found) -> Result<(), AllocError>
+    ensures { OnOk result (faults.new.items ≡ faults.old.items ++ rules.value_rules kind a.now) }
+{
+    scalar(faults, a.at, kind_of(a))?;
+    let clash = clash(kind, is_zero(a), kind_of(a));
+    rule(faults, clash, Kind::TypeMismatch, a.at)
+}
+
+// ---- constants
+
+/// A number of the type.
+pub fn constant(alloc: Global, at: u32, value: u64, kind: IntegerType) -> Result<Found, AllocError>
+    ensures { IfOk result (λ found. found ≡ rules.constant at value kind) }
+{
+    let term = Boxed::new(alloc, Expr::Number { value, kind })?;
+    Ok(plain(at, integer(kind), term))
+}
+
+/// A number as it is written.
+pub fn literal(alloc: Global, at: u32, value: u64, kind: IntegerType) -> Result<Found, AllocError>
+    ensures { IfOk result (λ found. found ≡ rules.literal at value kind) }
+{
+    if value == 0 {
+        Ok(Found {
+            at,
+            form: Form::Zero(kind),
+        })
+    } else {
+        constant(alloc, at, value, kind)
+    }
+}
+
+/// `NULL`.
+pub fn null(alloc: Global, at: u32) -> Result<Found, AllocError>
+    ensures { IfOk result (λ found. found ≡ rules.plain at types.null_type Expr.Null) }
+{
+    let kind = CType {
+        base: Base::Void,
+        stars: 1,
+    };
+    Ok(plain(at, kind, Boxed::new(alloc, Expr::Null)?))
+}
