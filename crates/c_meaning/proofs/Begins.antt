@@ -9,7 +9,7 @@ use Rattle.c_kernel.specs.declared.program.Stmt.{Stmt}
 use Rattle.c_meaning.specs.declared.level.Stage.TheVariants as stage
 use Rattle.c_meaning.specs.declared.value.Variables.{Variables}
 use Rattle.c_meaning.specs.Memory.{Memory}
-use Rattle.c_meaning.specs.Value.{Found, value_of, is_zero}
+use Rattle.c_meaning.specs.Value.{Found, value_of, is_false}
 use Rattle.c_meaning.specs.State.{Item, Rest, State, Goes}
 use Rattle.c_meaning.specs.State as state
 use Rattle.c_meaning.specs.Level.{level_items, statement_before, or_break, branch_of}
@@ -44,21 +44,21 @@ first_left block next h =
     let e : next ≡ suc next - 1 = omega arith in
     first_of block next h ∙ ap (λ n. or_break (slice_get block n) ∷ drop (suc next) block) e
 
-pub begun : (functions : List Function) (s : State) (top : state.Call) (below : List state.Call) (block : List Stmt) (next : ℕ) (todo items : List Item) → next < length block → items ≡ level_items block (next + 1) stage.Begun todo →
-    Goes true (record s { calls = called top items ∷ below }) ≡ goes_on functions s top below (Rest (drop next block) ∷ todo)
-begun functions s top below block next todo items h e =
+pub begun : (functions : List Function) (refuses : Memory → ℕ → Bool) (s : State) (top : state.Call) (below : List state.Call) (block : List Stmt) (next : ℕ) (todo items : List Item) → next < length block → items ≡ level_items block (next + 1) stage.Begun todo →
+    Goes true (record s { calls = called top items ∷ below }) ≡ goes_on functions refuses s top below (Rest (drop next block) ∷ todo)
+begun functions refuses s top below block next todo items h e =
     ap (λ t. Goes true (record s { calls = called top t ∷ below })) (e ∙ ap (λ n. level_items block n stage.Begun todo) (add-one next))
-    ∙ sym (ap (λ ss. goes_on functions s top below (Rest ss ∷ todo)) (first_left block next h))
+    ∙ sym (ap (λ ss. goes_on functions refuses s top below (Rest ss ∷ todo)) (first_left block next h))
 
 -- ---- the arms of an if
 
 abbrev taken : Found → List Stmt → Result (List Stmt) ℕ → Result (List Stmt) ℕ
-taken r body rest = elim r [ Err code ↦ Err code | Ok d ↦ if is_zero d.word then rest else Ok body ]
+taken r body rest = elim r [ Err code ↦ Err code | Ok d ↦ if is_false d then rest else Ok body ]
 
-took : (r : Found) (c : Cell) (body : List Stmt) (rest : Result (List Stmt) ℕ) → r ≡ Ok c → is_zero c.word ≡ false → taken r body rest ≡ Ok body
+took : (r : Found) (c : Cell) (body : List Stmt) (rest : Result (List Stmt) ℕ) → r ≡ Ok c → is_false c ≡ false → taken r body rest ≡ Ok body
 took r c body rest e z = subst (λ q. taken q body rest ≡ Ok body) (sym e) (rw z refl)
 
-pub arm_taken : (arms : List (Arm Stmt)) (i : ℕ) (d : Arm Stmt) (otherwise : List Stmt) (v : Variables) (m : Memory) (c : Cell) → i < length arms → value_of (get_or arms i d).test v m ≡ Ok c → is_zero c.word ≡ false → branch (drop i arms) otherwise v m ≡ Ok (branch_of arms otherwise i)
+pub arm_taken : (arms : List (Arm Stmt)) (i : ℕ) (d : Arm Stmt) (otherwise : List Stmt) (v : Variables) (m : Memory) (c : Cell) → i < length arms → value_of (get_or arms i d).test v m ≡ Ok c → is_false c ≡ false → branch (drop i arms) otherwise v m ≡ Ok (branch_of arms otherwise i)
 arm_taken [] i d otherwise v m c h e z = absurd (omega arith)
 arm_taken (a ∷ arms) zero d otherwise v m c h e z = took (value_of a.test v m) c a.body (branch arms otherwise v m) e z
 arm_taken (a ∷ arms) (suc i) d otherwise v m c h e z = arm_taken arms i d otherwise v m c (omega arith) e z

@@ -6,7 +6,8 @@ use Rattle.c_kernel.specs.declared.program.Arithmetic.TheVariants as arithmetic
 use Rattle.c_kernel.specs.declared.program.Direction.TheVariants.{Left, Right}
 use Rattle.c_kernel.specs.declared.program.Comparison.TheVariants as comparison
 use Rattle.c_kernel.specs.declared.program.UnaryOperator.TheVariants.{Minus, Complement}
-use Rattle.c_meaning.specs.Memory.{Memory, empty, number, null, pointer, load, store, zeroed, enter, leave}
+use Rattle.c_meaning.specs.Memory.{Memory, empty, number, null, load, store, zeroed, enter, leave}
+use Rattle.c_meaning.proofs.ObjectExamples.{at}
 use Rattle.c_meaning.specs.Value.{narrowed, arithmetic_of, shift_of, unary_of, and_of, or_of, holds}
 
 -- ---- numbers
@@ -116,56 +117,46 @@ other = refl
 two_calls : Memory
 two_calls = record {
   variables = record { serial = 1; cells = number (pos 7) ∷ [] } ∷ record { serial = 2; cells = null ∷ null ∷ [] } ∷ [];
+  heap = [];
   next = 3;
   calls = 2;
+  asked = 0;
 }
 
-through_null : load two_calls null ≡ Err 101
-unfolding two_calls
-through_null = refl
-
-found : load two_calls (pointer 1 (pos 0)) ≡ Ok (number (pos 7))
+found : load two_calls (at 1 (pos 0)) ≡ Ok (number (pos 7))
 unfolding two_calls
 found = refl
 
-past_the_end : load two_calls (pointer 1 (pos 1)) ≡ Err 102
-unfolding two_calls
-past_the_end = refl
-
-before_the_start : load two_calls (pointer 2 (negsuc 0)) ≡ Err 102
+before_the_start : load two_calls (at 2 (negsuc 0)) ≡ Err 102
 unfolding two_calls
 before_the_start = refl
 
-dead : load (leave two_calls 1) (pointer 2 (pos 5)) ≡ Err 103
-unfolding two_calls
-dead = refl
-
-never_there : load two_calls (pointer 9 (pos 0)) ≡ Err 103
-unfolding two_calls
-never_there = refl
-
-stored : store two_calls (pointer 2 (pos 1)) (number (pos 5)) ≡ Ok (record {
+stored : store two_calls (at 2 (pos 1)) (number (pos 5)) ≡ Ok (record {
   variables = record { serial = 1; cells = number (pos 7) ∷ [] } ∷ record { serial = 2; cells = null ∷ number (pos 5) ∷ [] } ∷ [];
+  heap = [];
   next = 3;
   calls = 2;
+  asked = 0;
 })
 unfolding two_calls
 stored = refl
 
-cleared : load (zeroed two_calls 1) (pointer 1 (pos 0)) ≡ Ok null
+cleared : load (zeroed two_calls 1) (at 1 (pos 0)) ≡ Ok null
 unfolding two_calls
 cleared = refl
 
 entered : enter empty (1 ∷ 2 ∷ []) ≡ Ok (record {
   variables = record { serial = 1; cells = null ∷ [] } ∷ record { serial = 2; cells = null ∷ null ∷ [] } ∷ [];
+  heap = [];
   next = 3;
   calls = 1;
+  asked = 0;
 })
 entered = refl
 
 no_room : enter empty (8000 ∷ 192 ∷ []) ≡ Err 108
 no_room = refl
 
-left : leave two_calls 1 ≡ record { variables = record { serial = 1; cells = number (pos 7) ∷ [] } ∷ []; next = 3; calls = 1 }
+left : leave two_calls 1 ≡ record { variables = record { serial = 1; cells = number (pos 7) ∷ [] } ∷ []; heap = []; next = 3; calls = 1; asked = 0 }
 unfolding two_calls
 left = refl

@@ -1,14 +1,15 @@
 -- What a place among objects says of them.
-use Rattle.std.proofs.Common.{◌-◌, replicate, add-one, ◌^◌, ◌≡◌, ℕ, zero, suc, ◌+◌, ◌<◌, ◌≤◌, ◌≢◌, List, [], ◌∷◌, ◌++◌, length, take, drop, get_or, slice_set, Option, Some, None, option_map, refl, sym, ap, subst, arith, nat_eq, Bool, true, false, if◌then◌else◌, pos}
+use Rattle.std.proofs.Common.{◌-◌, replicate, add-one, ◌^◌, ◌≡◌, ℕ, zero, suc, ◌+◌, ◌<◌, ◌≤◌, ◌≢◌, List, [], ◌∷◌, ◌++◌, length, take, drop, remove, get_or, slice_set, Option, Some, None, option_map, refl, sym, ap, subst, arith, nat_eq, Bool, true, false, if◌then◌else◌, pos}
 use Rattle.std.proofs.lemmas.Bool.Decides.{nat_tests}
 use Rattle.c3_base.specs.declared.cell.Cell.{Cell}
 use Rattle.c_meaning.specs.declared.object.Object.{Object}
+use Rattle.c_meaning.specs.declared.spot.Spot.{Spot}
 use Rattle.c_meaning.specs.Order.{IsRising, place_of}
 use Rattle.c_meaning.specs.Seen.{serial_of, objects_of, object_of}
 use Rattle.c_meaning.specs.Memory as spec
 use Rattle.std.specs.Prelude.{ℤ, negsuc}
 use Rattle.std.proofs.lemmas.List.{length-set, length-drop, take_all, length-replicate}
-use Rattle.c_meaning.specs.Memory.{find_object, put_cell, zero_object, null, with_cell, cells_in, total}
+use Rattle.c_meaning.specs.Memory.{find_object, put_cell, zero_object, without, null, with_cell, cells_in, total}
 
 -- a test of two numbers, with what it says
 pub data Same (a b : ℕ) : Type 0 where
@@ -72,14 +73,23 @@ pub find_none : (os : List Object) (n : ℕ) → Misses serial_of os n → find_
 find_none [] n h = refl
 find_none (o ∷ os) n h = rw (h.0, find_none os n h.1) refl
 
-pub put_some : (os : List Object) (i : ℕ) (p c : Cell) (d o : Object) → StandsAt serial_of os p.serial i → o.serial ≡ (get_or os i d).serial → o.cells.items ≡ with_cell (get_or os i d).cells.items p.word c → objects_of (slice_set os i o) ≡ put_cell (objects_of os) p c
+pub put_some : (os : List Object) (i : ℕ) (p : Spot) (c : Cell) (d o : Object) → StandsAt serial_of os p.serial i → o.serial ≡ (get_or os i d).serial → o.cells.items ≡ with_cell (get_or os i d).cells.items p.place c → objects_of (slice_set os i o) ≡ put_cell (objects_of os) p c
 put_some [] i p c d o h e f = absurd h
 put_some (x ∷ os) zero p c d o h e f = rw (h, e, f) refl
 put_some (x ∷ os) (suc i) p c d o h e f = rw h.0 (ap (λ r. object_of x ∷ r) (put_some os i p c d o h.1 e f))
 
-pub put_none : (os : List Object) (p c : Cell) → Misses serial_of os p.serial → objects_of os ≡ put_cell (objects_of os) p c
+pub put_none : (os : List Object) (p : Spot) (c : Cell) → Misses serial_of os p.serial → objects_of os ≡ put_cell (objects_of os) p c
 put_none [] p c h = refl
 put_none (x ∷ os) p c h = rw h.0 (ap (λ r. object_of x ∷ r) (put_none os p c h.1))
+
+pub without_some : (os : List Object) (n i : ℕ) → StandsAt serial_of os n i → objects_of (remove os i) ≡ without (objects_of os) n
+without_some [] n i h = absurd h
+without_some (x ∷ os) n zero h = rw h refl
+without_some (x ∷ os) n (suc i) h = rw h.0 (ap (λ r. object_of x ∷ r) (without_some os n i h.1))
+
+pub without_none : (os : List Object) (n : ℕ) → Misses serial_of os n → objects_of os ≡ without (objects_of os) n
+without_none [] n h = refl
+without_none (x ∷ os) n h = rw h.0 (ap (λ r. object_of x ∷ r) (without_none os n h.1))
 
 pub zero_some : (os : List Object) (n i : ℕ) (d o : Object) → StandsAt serial_of os n i → o.serial ≡ (get_or os i d).serial → o.cells.items ≡ replicate (length (get_or os i d).cells.items) null → objects_of (slice_set os i o) ≡ zero_object (objects_of os) n
 zero_some [] n i d o h e f = absurd h
@@ -103,6 +113,12 @@ rising_set key low [] high i d y e h = h
 rising_set key low (x ∷ xs) high zero d y e h = subst (λ k. (low ≤ k) × IsRising key (suc k) xs high) (sym e) h
 rising_set key low (x ∷ xs) high (suc i) d y e h = (h.0, rising_set key (suc (key x)) xs high i d y e h.1)
 
+pub rising_remove : {X : Type 0} (key : X → ℕ) (low : ℕ) (xs : List X) (high i : ℕ) → IsRising key low xs high → IsRising key low (remove xs i) high
+rising_remove key low [] high zero h = h
+rising_remove key low [] high (suc i) h = h
+rising_remove key low (x ∷ xs) high zero h = rising_from key (suc (key x)) low xs high (let l : low ≤ key x = h.0 in omega (arith, l)) h.1
+rising_remove key low (x ∷ xs) high (suc i) h = (h.0, rising_remove key (suc (key x)) xs high i h.1)
+
 -- the cells of objects, added up from the left
 pub cells_more : (os : List Object) (i : ℕ) (d : Object) → i < length os → cells_in (objects_of (take (suc i) os)) ≡ cells_in (objects_of (take i os)) + length (get_or os i d).cells.items
 cells_more [] i d l = let no : ⊥ = omega (arith, l) in absurd no
@@ -122,13 +138,18 @@ pub with_length : (cells : List Cell) (p : ℤ) (c : Cell) → length (with_cell
 with_length cells (pos n) c = length-set cells n c
 with_length cells (negsuc n) c = refl
 
-put_tested : (o : spec.Object) (os : List spec.Object) (p c : Cell) (t : Bool) → nat_eq o.serial p.serial ≡ t → cells_in (put_cell os p c) ≡ cells_in os → cells_in (put_cell (o ∷ os) p c) ≡ cells_in (o ∷ os)
-put_tested o os p c true e h = rw e (ap (λ k. k + cells_in os) (with_length o.cells p.word c))
+put_tested : (o : spec.Object) (os : List spec.Object) (p : Spot) (c : Cell) (t : Bool) → nat_eq o.serial p.serial ≡ t → cells_in (put_cell os p c) ≡ cells_in os → cells_in (put_cell (o ∷ os) p c) ≡ cells_in (o ∷ os)
+put_tested o os p c true e h = rw e (ap (λ k. k + cells_in os) (with_length o.cells p.place c))
 put_tested o os p c false e h = rw e (ap (λ k. length o.cells + k) h)
 
-pub cells_put : (os : List spec.Object) (p c : Cell) → cells_in (put_cell os p c) ≡ cells_in os
+pub cells_put : (os : List spec.Object) (p : Spot) (c : Cell) → cells_in (put_cell os p c) ≡ cells_in os
 cells_put [] p c = refl
 cells_put (o ∷ os) p c = put_tested o os p c (nat_eq o.serial p.serial) refl (cells_put os p c)
+
+pub cells_without : (os : List Object) (n i : ℕ) (d : Object) → StandsAt serial_of os n i → cells_in (without (objects_of os) n) + length (get_or os i d).cells.items ≡ cells_in (objects_of os)
+cells_without [] n i d h = absurd h
+cells_without (o ∷ os) n zero d h = rw h (omega arith)
+cells_without (o ∷ os) n (suc i) d h = rw h.0 (let r : cells_in (without (objects_of os) n) + length (get_or os i d).cells.items ≡ cells_in (objects_of os) = cells_without os n i d h.1 in omega (arith, r))
 
 zero_tested : (o : spec.Object) (os : List spec.Object) (n : ℕ) (t : Bool) → nat_eq o.serial n ≡ t → cells_in (zero_object os n) ≡ cells_in os → cells_in (zero_object (o ∷ os) n) ≡ cells_in (o ∷ os)
 zero_tested o os n true e h = rw e (ap (λ k. k + cells_in os) (length-replicate (length o.cells) null))
@@ -165,7 +186,7 @@ objects_take zero (o ∷ os) = refl
 objects_take (suc k) [] = refl
 objects_take (suc k) (o ∷ os) = ap (λ r. object_of o ∷ r) (objects_take k os)
 
-rising_low : {X : Type 0} (key : X → ℕ) (low : ℕ) (xs : List X) (high : ℕ) → IsRising key low xs high → low ≤ high
+pub rising_low : {X : Type 0} (key : X → ℕ) (low : ℕ) (xs : List X) (high : ℕ) → IsRising key low xs high → low ≤ high
 rising_low key low [] high h = h
 rising_low key low (x ∷ xs) high h = let r : suc (key x) ≤ high = rising_low key (suc (key x)) xs high h.1 in omega (arith, r, h.0)
 

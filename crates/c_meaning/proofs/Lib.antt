@@ -2,8 +2,11 @@ pub mod Places
 pub mod Finds
 pub mod Enters
 pub mod Numbers
+pub mod Wide
 pub mod Nodes
 pub mod Values
+pub mod Choices
+pub mod ObjectExamples
 mod Examples
 pub mod ValueExamples
 mod StepExamples

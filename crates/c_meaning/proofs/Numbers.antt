@@ -53,17 +53,17 @@ abs_minus : (n : ℕ) → unsigned_abs (neg_ℤ (pos n)) ≡ n
 abs_minus zero = refl
 abs_minus (suc n) = refl
 
-abs_quotient : (a b : ℤ) → unsigned_abs (int_div a b) ≤ unsigned_abs a
+pub abs_quotient : (a b : ℤ) → unsigned_abs (int_div a b) ≤ unsigned_abs a
 abs_quotient (pos a) (pos b) = div-le_self a b
 abs_quotient (pos a) (negsuc b) = rw (abs_minus (a / suc b)) (div-le_self a (suc b))
 abs_quotient (negsuc a) (pos b) = rw (abs_minus (suc a / b)) (div-le_self (suc a) b)
 abs_quotient (negsuc a) (negsuc b) = div-le_self (suc a) (suc b)
 
-abs_long : (a : ℤ) → FitsSigned w64 a → unsigned_abs a ≤ 2 ^ 63
+pub abs_long : (a : ℤ) → FitsSigned w64 a → unsigned_abs a ≤ 2 ^ 63
 abs_long (pos n) f = let l : n < 2 ^ 63 = f.sfits in omega (arith, l)
 abs_long (negsuc n) f = let l : n < 2 ^ 63 = f.sfits in omega (arith, l)
 
-wide_long : (z : ℤ) → FitsSigned w64 z → FitsSigned w128 z
+pub wide_long : (z : ℤ) → FitsSigned w64 z → FitsSigned w128 z
 wide_long z f = omega (arith, ints, f)
 
 quotient_fits : (a b : ℤ) → FitsSigned w64 a → FitsSigned w128 (int_div a b)

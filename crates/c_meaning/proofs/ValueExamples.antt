@@ -1,5 +1,6 @@
 -- The values of small expressions, where x is the one variable, and holds 7.
-use Rattle.std.proofs.Common.{◌≡◌, ℕ, pos, negsuc, [], ◌∷◌, Some, None, Ok, Err, refl, ap, ◌∙◌}
+use Rattle.std.proofs.Common.{◌≡◌, ℕ, pos, negsuc, List, [], ◌∷◌, Some, None, Result, Ok, Err, refl, ap, map, ◌∙◌}
+use Rattle.std.specs.Prelude.{◌*ℤ◌}
 use Rattle.std.specs.Int.{int_wrap}
 use Rattle.c3_base.specs.declared.cell.Cell.{Cell}
 use Rattle.c_kernel.specs.declared.types.IntegerType.TheVariants.{Char, Int, Long}
@@ -7,23 +8,29 @@ use Rattle.c_kernel.specs.declared.program.Expr.{Expr}
 use Rattle.c_kernel.specs.declared.program.Expr.TheOpen.{Expr-F}
 use Rattle.c_kernel.specs.declared.program.Expr.TheViews.{roll-Expr}
 use Rattle.c_kernel.specs.declared.program.Link.{Link}
+use Rattle.c_kernel.specs.declared.program.Place.{Place}
+use Rattle.c_kernel.specs.declared.program.Root.TheVariants as root
+use Rattle.c_kernel.specs.declared.program.Selection.{Selection}
+use Rattle.c_kernel.specs.declared.program.Selection.TheVariants as selection
+use Rattle.c_kernel.specs.declared.program.Scalar.TheVariants as scalar
 use Rattle.c_kernel.specs.declared.program.BinaryOperator.{BinaryOperator}
 use Rattle.c_kernel.specs.declared.program.BinaryOperator.TheVariants as binary
 use Rattle.c_kernel.specs.declared.program.Arithmetic.TheVariants as arithmetic
 use Rattle.c_kernel.specs.declared.program.UnaryOperator.TheVariants as unary
+use Rattle.c_meaning.specs.declared.spot.Spot.{Spot}
 use Rattle.c_meaning.specs.declared.value.Variables.{Variables}
-use Rattle.c_meaning.specs.Memory.{Memory, number, pointer}
-use Rattle.c_meaning.specs.Value.{Found, converted, linked, chained, link_of, value_of, values_of}
-use Rattle.c_meaning.proofs.Nodes.{value_roll}
+use Rattle.c_meaning.specs.Memory.{Memory, number, null, pointer, pointing}
+use Rattle.c_meaning.specs.Value.{Found, then_with, converted, linked, chained, link_of, load_of, moved, reached, step_meaning, place_of, value_of, values_of}
+use Rattle.c_meaning.proofs.Nodes.{value_roll, load_roll, address_roll}
 
 abbrev pub figure : ℕ → Expr
 figure n = roll-Expr (Expr-F.Number n Int)
 
-abbrev pub place : ℕ → Expr
-place k = roll-Expr (Expr-F.Variable k)
+abbrev pub place : ℕ → Place Expr
+place k = record { root = root.Variable k; steps = [] }
 
-abbrev pub loaded : Expr → Expr
-loaded p = roll-Expr (Expr-F.Load p Int)
+abbrev pub loaded : Place Expr → Expr
+loaded p = roll-Expr (Expr-F.Load p (scalar.Number Int))
 
 abbrev pub link : BinaryOperator → Expr → Link Expr
 link o e = record { conversion = None; operator = o; operand = e }
@@ -38,13 +45,13 @@ abbrev pub one : Variables
 one = record { first = 4; count = 1 }
 
 abbrev pub seven : Memory
-seven = record { variables = record { serial = 4; cells = number (pos 7) ∷ [] } ∷ []; next = 5; calls = 1 }
+seven = record { variables = record { serial = 4; cells = number (pos 7) ∷ [] } ∷ []; heap = []; next = 5; calls = 1; asked = 0 }
 
-pub after_one : (a : Expr) (l : Link Expr) (x : Cell) (y : Found) → value_of a one seven ≡ Ok x → value_of l.operand one seven ≡ y → value_of (roll-Expr (Expr-F.Chain a (l ∷ []))) one seven ≡ chained (linked l.operator (converted l.conversion x) y) [] one seven
+pub after_one : (a : Expr) (l : Link Expr) (x : Cell) (y : Found) → value_of a one seven ≡ Ok x → value_of l.operand one seven ≡ y → value_of (roll-Expr (Expr-F.Chain a (l ∷ []))) one seven ≡ chained (linked l.operator seven (converted l.conversion x) y) [] one seven
 after_one a l x y e f =
     value_roll (Expr-F.Chain a (l ∷ [])) one seven
     ∙ ap (λ (r : Found). chained r (link_of l ∷ []) one seven) e
-    ∙ ap (λ (r : Found). chained (linked l.operator (converted l.conversion x) r) [] one seven) f
+    ∙ ap (λ (r : Found). chained (linked l.operator seven (converted l.conversion x) r) [] one seven) f
 
 abbrev pub found : Expr → Found
 found e = value_of e one seven
@@ -64,10 +71,21 @@ pub variable : found (loaded (place 0)) ≡ Ok (number (pos 7))
 unfolding int_wrap
 variable = simp (value_roll, value_of) refl
 
--- the place of x, and of what is no variable
-place_of_it : found (place 0) ≡ Ok (pointer 4 (pos 0))
+-- &x, and the load through it
+abbrev pub address : Place Expr → Expr
+address p = roll-Expr (Expr-F.Address p)
+
+place_of_it : found (address (place 0)) ≡ Ok (pointer 4 (pos 0))
 place_of_it = simp (value_roll, value_of) refl
 
+abbrev pub target : Expr → List (Selection Expr) → Place Expr
+target p steps = record { root = root.Target p; steps = steps }
+
+-- NULL, and *NULL
+nothing : found (roll-Expr Expr-F.Null) ≡ Ok null
+nothing = simp (value_roll, value_of) refl
+
+-- what is no variable
 no_place : found (loaded (place 1)) ≡ Err 101
 no_place = simp (value_roll, value_of) refl
 
@@ -86,9 +104,9 @@ by_zero : found (divided (figure 1) (figure 0)) ≡ Err 106
 unfolding int_wrap
 by_zero = after_one (figure 1) (link (binary.Arithmetic arithmetic.Divide Int) (figure 0)) (number (pos 1)) (Ok (number (pos 0))) (simp (value_roll, value_of) refl) (simp (value_roll, value_of) refl)
 
-reached : found (pair (figure 1) binary.And (divided (figure 1) (figure 0))) ≡ Err 106
+right_fault : found (pair (figure 1) binary.And (divided (figure 1) (figure 0))) ≡ Err 106
 unfolding int_wrap
-reached = after_one (figure 1) (link binary.And (divided (figure 1) (figure 0))) (number (pos 1)) (Err 106) (simp (value_roll, value_of) refl) by_zero
+right_fault = after_one (figure 1) (link binary.And (divided (figure 1) (figure 0))) (number (pos 1)) (Err 106) (simp (value_roll, value_of) refl) by_zero
 
 -- x ? 1 : 1 / 0
 chosen : found (roll-Expr (Expr-F.Choice (loaded (place 0)) (figure 1) (divided (figure 1) (figure 0)))) ≡ Ok (number (pos 1))
@@ -125,6 +143,38 @@ narrowed = simp (value_roll, value_of) refl
 widened : found (roll-Expr (Expr-F.Chain (loaded (place 0)) (record { conversion = Some Long; operator = binary.Arithmetic arithmetic.Add Long; operand = figure 1 } ∷ []))) ≡ Ok (number (pos 8))
 unfolding int_wrap
 widened = after_one (loaded (place 0)) (record { conversion = Some Long; operator = binary.Arithmetic arithmetic.Add Long; operand = figure 1 }) (number (pos 7)) (Ok (number (pos 1))) (simp (value_roll, value_of) refl) (simp (value_roll, value_of) refl)
+
+-- *&x
+back : found (loaded (target (address (place 0)) [])) ≡ Ok (number (pos 7))
+unfolding int_wrap
+back = simp (value_roll, value_of) refl
+
+through_null : found (loaded (target (roll-Expr Expr-F.Null) [])) ≡ Err 101
+through_null = simp (value_roll, value_of) refl
+
+-- an element of x, and what is selected there
+abbrev pub element : Expr → List (Selection Expr) → Place Expr
+element n steps = record { root = root.Variable 0; steps = selection.Element n 1 ∷ steps }
+
+element_at : (n : Expr) (steps : List (Selection Expr)) (x : Cell) → found n ≡ Ok x → place_of (element n steps) one seven ≡ reached (moved (record { serial = 4; place = pos 0 }) (x.word *ℤ pos 1)) (map step_meaning steps) one seven
+element_at n steps x e = ap (λ (r : Found). reached (then_with r (λ y. moved (record { serial = 4; place = pos 0 }) (y.word *ℤ pos 1))) (map step_meaning steps) one seven) e
+
+-- &x[1], &x[2] and x[1]
+one_past : found (address (element (figure 1) [])) ≡ Ok (pointer 4 (pos 1))
+unfolding int_wrap
+one_past = address_roll (element (figure 1) []) one seven ∙ ap (λ (r : Result Spot ℕ). then_with r (pointing seven)) (element_at (figure 1) [] (number (pos 1)) (simp (value_roll, value_of) refl))
+
+two_past : found (address (element (figure 2) [])) ≡ Err 110
+unfolding int_wrap
+two_past = address_roll (element (figure 2) []) one seven ∙ ap (λ (r : Result Spot ℕ). then_with r (pointing seven)) (element_at (figure 2) [] (number (pos 2)) (simp (value_roll, value_of) refl))
+
+outside : found (loaded (element (figure 1) [])) ≡ Err 102
+unfolding int_wrap
+outside = load_roll (element (figure 1) []) (scalar.Number Int) one seven ∙ ap (λ (r : Result Spot ℕ). then_with r (load_of seven (scalar.Number Int))) (element_at (figure 1) [] (number (pos 1)) (simp (value_roll, value_of) refl))
+
+-- before the start, and back inside
+back_inside : reached (moved (record { serial = 4; place = pos 0 }) (negsuc 0)) (selection.Member 0 1 1 ∷ []) one seven ≡ Ok (record { serial = 4; place = pos 0 })
+back_inside = refl
 
 -- several: the first fault counts
 several : values_of (figure 1 ∷ loaded (place 0) ∷ []) one seven ≡ Ok (number (pos 1) ∷ number (pos 7) ∷ [])

@@ -1,7 +1,7 @@
 -- Where a function stands among its statements, and what follows there.
 use Rattle.std.specs.Prelude.{ℕ, ◌-◌, Bool, true, false, List, [], ◌∷◌, drop, Option, Some, None, slice_get}
 use Rattle.c_kernel.specs.declared.program.Action.{Action}
-use Rattle.c_kernel.specs.declared.program.Action.TheVariants.{Zero, Set, Call}
+use Rattle.c_kernel.specs.declared.program.Action.TheVariants.{Zero, Set, Call, Malloc}
 use Rattle.c_kernel.specs.declared.program.Arm.{Arm}
 use Rattle.c_kernel.specs.declared.program.Target.{Target}
 use Rattle.c_kernel.specs.declared.program.Stmt.{Stmt, out-Stmt}
@@ -31,6 +31,7 @@ branch_in stmt.Break n = []
 branch_in stmt.Continue n = []
 branch_in (stmt.Return e) n = []
 branch_in (stmt.Print format arguments) n = []
+branch_in (stmt.Free e) n = []
 branch_in stmt.Mark n = []
 
 -- what a statement does at once
@@ -49,6 +50,7 @@ actions_in stmt.Break part = []
 actions_in stmt.Continue part = []
 actions_in (stmt.Return e) part = []
 actions_in (stmt.Print format arguments) part = []
+actions_in (stmt.Free e) part = []
 actions_in stmt.Mark part = []
 
 -- where the result of an action goes
@@ -56,6 +58,7 @@ abbrev pub target_of : Action → Option Target
 target_of (Zero k) = None
 target_of (Set place value) = None
 target_of (Call into f arguments) = into
+target_of (Malloc place bytes each) = None
 
 abbrev pub target_before : List Action → ℕ → Option Target
 target_before actions at = elim (slice_get actions (at - 1)) [ None ↦ None | Some a ↦ target_of a ]

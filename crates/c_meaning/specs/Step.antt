@@ -1,24 +1,25 @@
 -- What one step of a program does (C99 6.8).
-use Rattle.std.specs.Prelude.{ℕ, suc, ◌+◌, pos, Bool, true, false, nat_lt, if◌then◌else◌, List, [], ◌∷◌, length, map, Option, Some, None, Result, Ok, Err, slice_get}
+use Rattle.std.specs.Prelude.{ℕ, suc, ◌+◌, ◌*◌, ◌/◌, ℤ, pos, negsuc, Bool, true, false, ◌&&◌, nat_lt, if◌then◌else◌, List, [], ◌∷◌, length, map, Option, Some, None, Result, Ok, Err, slice_get}
 use Rattle.c3_base.specs.declared.cell.Cell.{Cell}
 use Rattle.mpi_words.specs.declared.operation.Op.{Op}
 use Rattle.mpi_words.specs.declared.operation.Op.TheVariants as op
 use Rattle.mpi_words.specs.declared.operation.End.TheVariants.{Exit, Fault}
 use Rattle.mpi_words.specs.declared.operation.Reply.{Reply}
-use Rattle.c_kernel.specs.Extent.{cells}
+use Rattle.c_kernel.specs.declared.types.Extent.{Extent}
 use Rattle.c_kernel.specs.declared.types.IntegerType.TheVariants.{Int}
 use Rattle.c_kernel.specs.declared.program.Function.{Function}
 use Rattle.c_kernel.specs.declared.program.Program.{Program}
 use Rattle.c_kernel.specs.declared.program.Expr.{Expr}
+use Rattle.c_kernel.specs.declared.program.Place.{Place}
 use Rattle.c_kernel.specs.declared.program.Arm.{Arm}
 use Rattle.c_kernel.specs.declared.program.Action.{Action}
-use Rattle.c_kernel.specs.declared.program.Action.TheVariants.{Zero, Set, Call}
+use Rattle.c_kernel.specs.declared.program.Action.TheVariants.{Zero, Set, Call, Malloc}
 use Rattle.c_kernel.specs.declared.program.Stmt.{Stmt, out-Stmt}
 use Rattle.c_kernel.specs.declared.program.Stmt.TheOpen.{Stmt-F}
 use Rattle.c_kernel.specs.declared.program.Stmt.TheOpen as stmt
 use Rattle.c_meaning.specs.declared.value.Variables.{Variables}
-use Rattle.c_meaning.specs.Memory.{Memory, empty, number, pointer, put, store, zeroed, enter, leave}
-use Rattle.c_meaning.specs.Value.{is_zero, narrowed, variable_of, value_of, values_of}
+use Rattle.c_meaning.specs.Memory.{Memory, empty, number, null, pointer, put, store, zeroed, enter, leave, grant, refuse, may_refuse, free}
+use Rattle.c_meaning.specs.Value.{is_false, narrowed, read_of, variable_of, place_of, value_of, values_of}
 use Rattle.c_meaning.specs.Text.{printed}
 use Rattle.c_meaning.specs.State.{Item, Body, Rest, Begun, Acting, Awaiting, Testing, Stepping, State, Outcome, Goes, Asks, Ends, after_loop, to_loop}
 use Rattle.c_meaning.specs.State as state
@@ -30,7 +31,7 @@ body_of functions f = elim (slice_get functions f) [ None ↦ [] | Some g ↦ g.
 
 -- how many cells each of its variables has
 abbrev pub lengths_of : List Function → ℕ → List ℕ
-lengths_of functions f = elim (slice_get functions f) [ None ↦ [] | Some g ↦ map cells g.variables ]
+lengths_of functions f = elim (slice_get functions f) [ None ↦ [] | Some g ↦ map (λ t. t.cells) g.variables ]
 
 -- ---- how a step goes on
 
@@ -56,7 +57,7 @@ asks s top below todo o = Asks o (record s { calls = record top { todo = todo } 
 -- the parameters get the values
 abbrev pub with_arguments : Memory → ℕ → List Cell → Memory
 with_arguments m serial [] = m
-with_arguments m serial (v ∷ vs) = with_arguments (put m (pointer serial (pos 0)) v) (suc serial) vs
+with_arguments m serial (v ∷ vs) = with_arguments (put m (record { serial = serial; place = pos 0 }) v) (suc serial) vs
 
 -- a call that begins
 abbrev pub call_of : List Function → ℕ → ℕ → state.Call
@@ -74,14 +75,14 @@ enters functions s calls f vs =
     }))
 
 -- a value is stored at a place
-abbrev pub stores : State → state.Call → List state.Call → List Item → Expr → Cell → Outcome
+abbrev pub stores : State → state.Call → List state.Call → List Item → Place Expr → Cell → Outcome
 stores s top below todo place v =
-    with_ok (value_of place top.variables s.memory) (λ p. with_ok (store s.memory p v) (goes_with s top below todo))
+    with_ok (place_of place top.variables s.memory) (λ p. with_ok (store s.memory p v) (goes_with s top below todo))
 
 -- the result of a call comes back to its caller, and goes to its place where it has one
 abbrev pub awaited : State → state.Call → List state.Call → List Item → Cell → Outcome
 awaited s caller below (Awaiting None ∷ todo) v = goes_to s caller below todo
-awaited s caller below (Awaiting (Some t) ∷ todo) v = stores s caller below todo t.place (number (narrowed t.kind v.word))
+awaited s caller below (Awaiting (Some t) ∷ todo) v = stores s caller below todo t.place (read_of t.kind v)
 awaited s caller below todo v = goes_to s caller below todo
 
 -- main's value is the exit code
@@ -93,13 +94,40 @@ comes_back s (caller ∷ below) v = awaited s caller below caller.todo v
 abbrev pub returned : State → state.Call → List state.Call → Cell → Outcome
 returned s top below v = comes_back (record s { calls = below; memory = leave s.memory top.variables.count }) below v
 
+-- ---- malloc (7.20.3.3)
+
+-- how many cells it asks for; none, where so many bytes hold no object
+abbrev pub cells_asked : ℤ → Extent → Option ℕ
+cells_asked (negsuc n) each = None
+cells_asked (pos n) each = if nat_lt 0 (n / each.size) then Some (n / each.size * each.cells) else None
+
+-- whether NULL is given, by the choice where there is one
+abbrev pub is_refused : (Memory → ℕ → Bool) → Memory → ℕ → Bool
+is_refused refuses m n = may_refuse m n && refuses m n
+
+-- the memory then, and the pointer
+abbrev pub allocated : (Memory → ℕ → Bool) → Memory → ℕ → Memory × Cell
+allocated refuses m n = if is_refused refuses m n then (refuse m n, null) else (grant m n, pointer m.next (pos 0))
+
+abbrev pub malloc : (Memory → ℕ → Bool) → Memory → Option ℕ → Memory × Cell
+malloc refuses m None = (m, null)
+malloc refuses m (Some n) = allocated refuses m n
+
+-- what it gives is stored at a place
+abbrev pub allocates : (Memory → ℕ → Bool) → State → state.Call → List state.Call → List Item → Place Expr → Option ℕ → Outcome
+allocates refuses s top below todo place asked =
+    let given = malloc refuses s.memory asked in
+    stores (record s { memory = given.0 }) top below todo place given.1
+
 -- ---- what is done at once
 
-abbrev pub acts : List Function → State → state.Call → List state.Call → List Item → Action → Outcome
-acts functions s top below todo (Zero k) = goes_with s top below todo (zeroed s.memory (variable_of k top.variables).serial)
-acts functions s top below todo (Set place value) = with_ok (value_of value top.variables s.memory) (stores s top below todo place)
-acts functions s top below todo (Call into f arguments) =
+abbrev pub acts : List Function → (Memory → ℕ → Bool) → State → state.Call → List state.Call → List Item → Action → Outcome
+acts functions refuses s top below todo (Zero k) = goes_with s top below todo (zeroed s.memory (variable_of k top.variables).serial)
+acts functions refuses s top below todo (Set place value) = with_ok (value_of value top.variables s.memory) (stores s top below todo place)
+acts functions refuses s top below todo (Call into f arguments) =
     with_ok (values_of arguments top.variables s.memory) (enters functions s (record top { todo = Awaiting into ∷ todo } ∷ below) f)
+acts functions refuses s top below todo (Malloc place bytes each) =
+    with_ok (value_of bytes top.variables s.memory) (λ n. allocates refuses s top below todo place (cells_asked n.word each))
 
 -- ---- statements that have begun
 
@@ -108,7 +136,7 @@ abbrev pub branch : List (Arm Stmt) → List Stmt → Variables → Memory → R
 branch [] otherwise v m = Ok otherwise
 branch (a ∷ arms) otherwise v m = elim (value_of a.test v m) [
   | Err code ↦ Err code
-  | Ok c ↦ if is_zero c.word then branch arms otherwise v m else Ok a.body
+  | Ok c ↦ if is_false c then branch arms otherwise v m else Ok a.body
 ]
 
 -- what printf prints, or 109 where the output would have more than 1,048,576 bytes
@@ -127,13 +155,14 @@ does functions s top below todo x stmt.Continue = goes_to s top below (to_loop t
 does functions s top below todo x (stmt.Return None) = returned s top below (number (pos 0))
 does functions s top below todo x (stmt.Return (Some e)) = with_ok (value_of e top.variables s.memory) (returned s top below)
 does functions s top below todo x (stmt.Print format arguments) = with_ok (values_of arguments top.variables s.memory) (λ vs. prints s top below todo (printed format vs))
+does functions s top below todo x (stmt.Free e) = with_ok (value_of e top.variables s.memory) (λ p. with_ok (free s.memory p) (goes_with s top below todo))
 does functions s top below todo x stmt.Mark = asks s top below todo op.Mark
 
 -- ---- loops (6.8.5)
 
 -- a turn of a loop, where the test isn't 0
 abbrev pub turns : State → state.Call → List state.Call → List Item → Expr → List Item → Outcome
-turns s top below todo e inside = with_ok (value_of e top.variables s.memory) (λ c. goes_to s top below (if is_zero c.word then todo else inside))
+turns s top below todo e inside = with_ok (value_of e top.variables s.memory) (λ c. goes_to s top below (if is_false c then todo else inside))
 
 abbrev pub tests : State → state.Call → List state.Call → List Item → Stmt → Stmt-F Stmt → Outcome
 tests s top below todo x (stmt.While e ss) = turns s top below todo e (Rest ss ∷ Testing x ∷ todo)
@@ -150,26 +179,26 @@ steps s top below todo x _ = goes_to s top below (Testing x ∷ todo)
 -- ---- a step
 
 -- what is first in the newest call. A function whose end is reached returns 0
-abbrev pub goes_on : List Function → State → state.Call → List state.Call → List Item → Outcome
-goes_on functions s top below [] = returned s top below (number (pos 0))
-goes_on functions s top below (Body ss ∷ todo) = Goes true (record s { calls = record top { todo = Rest ss ∷ todo } ∷ below })
-goes_on functions s top below (Rest [] ∷ todo) = goes_to s top below todo
-goes_on functions s top below (Rest (x ∷ xs) ∷ todo) = Goes true (record s { calls = record top { todo = Begun x ∷ Rest xs ∷ todo } ∷ below })
-goes_on functions s top below (Begun x ∷ todo) = does functions s top below todo x (out-Stmt x)
-goes_on functions s top below (Acting [] ∷ todo) = goes_to s top below todo
-goes_on functions s top below (Acting (a ∷ actions) ∷ todo) = acts functions s top below (Acting actions ∷ todo) a
-goes_on functions s top below (Awaiting t ∷ todo) = goes_to s top below todo
-goes_on functions s top below (Testing x ∷ todo) = tests s top below todo x (out-Stmt x)
-goes_on functions s top below (Stepping x ∷ todo) = steps s top below todo x (out-Stmt x)
+abbrev pub goes_on : List Function → (Memory → ℕ → Bool) → State → state.Call → List state.Call → List Item → Outcome
+goes_on functions refuses s top below [] = returned s top below (number (pos 0))
+goes_on functions refuses s top below (Body ss ∷ todo) = Goes true (record s { calls = record top { todo = Rest ss ∷ todo } ∷ below })
+goes_on functions refuses s top below (Rest [] ∷ todo) = goes_to s top below todo
+goes_on functions refuses s top below (Rest (x ∷ xs) ∷ todo) = Goes true (record s { calls = record top { todo = Begun x ∷ Rest xs ∷ todo } ∷ below })
+goes_on functions refuses s top below (Begun x ∷ todo) = does functions s top below todo x (out-Stmt x)
+goes_on functions refuses s top below (Acting [] ∷ todo) = goes_to s top below todo
+goes_on functions refuses s top below (Acting (a ∷ actions) ∷ todo) = acts functions refuses s top below (Acting actions ∷ todo) a
+goes_on functions refuses s top below (Awaiting t ∷ todo) = goes_to s top below todo
+goes_on functions refuses s top below (Testing x ∷ todo) = tests s top below todo x (out-Stmt x)
+goes_on functions refuses s top below (Stepping x ∷ todo) = steps s top below todo x (out-Stmt x)
 
 -- where no call is under way, main's frame found no room
-abbrev pub step_in : List Function → State → List state.Call → Outcome
-step_in functions s [] = Ends (Fault 108)
-step_in functions s (top ∷ below) = goes_on functions s top below top.todo
+abbrev pub step_in : List Function → (Memory → ℕ → Bool) → State → List state.Call → Outcome
+step_in functions refuses s [] = Ends (Fault 108)
+step_in functions refuses s (top ∷ below) = goes_on functions refuses s top below top.todo
 
--- one step. An operation waits for its reply
-abbrev pub step : List Function → State → Outcome
-step functions s = elim s.asked [ None ↦ step_in functions s s.calls | Some o ↦ Asks o s ]
+-- one step. An operation waits for its reply. Where malloc may give NULL, it does so by a choice
+abbrev pub step : List Function → (Memory → ℕ → Bool) → State → Outcome
+step functions refuses s = elim s.asked [ None ↦ step_in functions refuses s s.calls | Some o ↦ Asks o s ]
 
 -- ---- whether the next step begins a statement
 

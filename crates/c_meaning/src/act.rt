@@ -1,23 +1,29 @@
 //! What is done at once.
 
-ghost use Rattle.std.specs.Prelude.{◌≡◌, ◌+◌, ◌<◌, ◌-◌, ◌^◌, Some, slice_get, IfOk, List};
+ghost use Rattle.std.specs.Prelude.{◌≡◌, ◌<◌, ◌-◌, ◌^◌, Some, slice_get, IfOk, List};
 ghost use Rattle.c_kernel.specs.declared.program.Stmt.{out-Stmt};
 ghost use Rattle.c_meaning.specs.declared.level.Stage.TheVariants.{Acting};
 ghost use Rattle.c_meaning.specs.Level.{actions_in, after_part};
 ghost use Rattle.c_meaning.specs.Level as level;
 ghost use Rattle.c_kernel.specs.declared.program.Function as program;
 ghost use Rattle.c_meaning.specs.Running.{todo, block_of, state_of, outcome_of, in_call, standing};
-ghost use Rattle.c_meaning.specs.Step.{goes_on, goes_with, acts, stores, with_ok};
+ghost use Rattle.c_meaning.specs.Step.{goes_on, goes_with, acts, stores, allocates, malloc, with_ok};
+ghost use Rattle.c_meaning.specs.Step as spec;
 ghost use Rattle.c_meaning.specs.Memory as memory;
-ghost use Rattle.c_meaning.specs.Value.{value_of, variable_of};
+ghost use Rattle.c_meaning.specs.Memory.{is_full};
+ghost use Rattle.c_meaning.specs.Value.{value_of};
 
 use crate::frame::Frame;
 use crate::level::{Part, Stage, actions_before};
 use crate::levels::push;
+use crate::memory::Memory;
 use crate::running::{Running, Step, block, fault};
-use crate::value::{Variables, value};
-use c_kernel::program::{Action, Expr, Function};
+use crate::spot::{NULL, Spot};
+use crate::value::{place as place_of, value, variable};
+use c_kernel::Extent;
+use c_kernel::program::{Action, Expr, Function, Place};
 use c3_base::{Cell, NoMemory};
+use std::alloc::AllocError;
 
 impl Running {
     /// The action at a place of these.
@@ -30,7 +36,7 @@ impl Running {
         at: usize,
     ) -> Result<Step, NoMemory>
         requires { self.old.memory.next < 2 ^ 62 }
-        ensures { IfOk result (λ did. outcome_of did (state_of functions.now self.new) ≡ in_call (goes_on functions.now) functions.now self.old frame (standing functions.now frame next (Acting part at))) }
+        ensures { IfOk result (λ did. outcome_of did (state_of functions.now self.new) ≡ in_call (goes_on functions.now is_full) functions.now self.old frame (standing functions.now frame next (Acting part at))) }
     {
         let block = block(functions, &frame);
         match actions_before(block, next, part).get(at) {
@@ -51,11 +57,11 @@ impl Running {
     ) -> Result<Step, NoMemory>
         requires is { slice_get (actions_in (out-Stmt (level.statement_before (block_of functions.now frame) next)) part) (at - 1) ≡ Some action.now }
         requires few { self.old.memory.next < 2 ^ 62 }
-        ensures { IfOk result (λ did. outcome_of did (state_of functions.now self.new) ≡ in_call (acts functions.now) functions.now self.old frame (standing functions.now frame next (Acting part at)) action.now) }
+        ensures { IfOk result (λ did. outcome_of did (state_of functions.now self.new) ≡ in_call (acts functions.now is_full) functions.now self.old frame (standing functions.now frame next (Acting part at)) action.now) }
     {
         match action {
             Action::Zero(k) => {
-                self.memory.zero(serial_of(*k, &frame.variables));
+                self.memory.zero(variable(*k, &frame.variables).serial);
                 self.put(frame, next, Stage::Acting { part, at })
             }
             Action::Set { place, value } => {
@@ -70,11 +76,15 @@ impl Running {
                 push(&mut frame.levels, next, Stage::Awaiting { part, at })?;
                 self.call(functions, frame, *function, arguments.as_slice())
             }
+            Action::Malloc { place, bytes, each } => {
+                push(&mut frame.levels, next, Stage::Acting { part, at })?;
+                self.malloc(frame, place, bytes, *each)
+            }
         }
     }
 
     // The right side, and then the place.
-    fn set(&mut self, frame: Frame, place: &Expr, e: &Expr) -> Result<Step, NoMemory>
+    fn set(&mut self, frame: Frame, place: &Place<Expr>, e: &Expr) -> Result<Step, NoMemory>
         ensures { IfOk result (λ did. (functions : List program.Function) → outcome_of did (state_of functions self.new) ≡ with_ok (value_of e.now frame.variables self.old.memory) (in_call stores functions self.old frame (todo functions frame) place.now)) }
     {
         match value(e, &frame.variables, &self.memory) {
@@ -84,23 +94,79 @@ impl Running {
     }
 
     /// A value is stored at a place.
-    pub fn store(&mut self, frame: Frame, place: &Expr, v: Cell) -> Result<Step, NoMemory>
+    pub fn store(&mut self, frame: Frame, place: &Place<Expr>, v: Cell) -> Result<Step, NoMemory>
         ensures { IfOk result (λ did. (functions : List program.Function) → outcome_of did (state_of functions self.new) ≡ in_call stores functions self.old frame (todo functions frame) place.now v) }
     {
-        match value(place, &frame.variables, &self.memory) {
+        match place_of(place, &frame.variables, &self.memory) {
             Err(code) => fault(code),
-            Ok(p) => self.store_at(frame, p, v),
+            Ok(spot) => self.store_at(frame, spot, v),
         }
     }
 
-    fn store_at(&mut self, frame: Frame, p: Cell, v: Cell) -> Result<Step, NoMemory>
-        ensures { IfOk result (λ did. (functions : List program.Function) → outcome_of did (state_of functions self.new) ≡ with_ok (memory.store self.old.memory p v) (in_call goes_with functions self.old frame (todo functions frame))) }
+    fn store_at(&mut self, frame: Frame, spot: Spot, v: Cell) -> Result<Step, NoMemory>
+        ensures { IfOk result (λ did. (functions : List program.Function) → outcome_of did (state_of functions self.new) ≡ with_ok (memory.store self.old.memory spot v) (in_call goes_with functions self.old frame (todo functions frame))) }
     {
-        match self.memory.store(p, v) {
+        match self.memory.store(spot, v) {
             Err(code) => fault(code),
             Ok(()) => self.go_on(frame, false),
         }
     }
+
+    // `malloc`.
+    fn malloc(
+        &mut self,
+        frame: Frame,
+        place: &Place<Expr>,
+        bytes: &Expr,
+        each: Extent,
+    ) -> Result<Step, NoMemory>
+        requires { self.old.memory.next < 2 ^ 62 }
+        ensures { IfOk result (λ did. (functions : List program.Function) → outcome_of did (state_of functions self.new) ≡ with_ok (value_of bytes.now frame.variables self.old.memory) (λ n. in_call (allocates is_full) functions self.old frame (todo functions frame) place.now (spec.cells_asked n.word each))) }
+    {
+        match value(bytes, &frame.variables, &self.memory) {
+            Err(code) => fault(code),
+            Ok(n) => self.allocate(frame, place, cells_asked(n.word, each)),
+        }
+    }
+
+    // What is given for so many cells is stored at a place.
+    fn allocate(
+        &mut self,
+        frame: Frame,
+        place: &Place<Expr>,
+        asked: Option<u128>,
+    ) -> Result<Step, NoMemory>
+        requires { self.old.memory.next < 2 ^ 62 }
+        ensures { IfOk result (λ did. (functions : List program.Function) → outcome_of did (state_of functions self.new) ≡ in_call (allocates is_full) functions self.old frame (todo functions frame) place.now asked) }
+    {
+        let given = give(&mut self.memory, asked)?;
+        self.store(frame, place, given)
+    }
+}
+
+// An object of so many cells, or NULL.
+fn give(memory: &mut Memory, asked: Option<u128>) -> Result<Cell, AllocError>
+    requires { memory.old.next < 2 ^ 62 }
+    ensures { IfOk result (λ given. (memory.new, given) ≡ malloc is_full memory.old asked) }
+{
+    match asked {
+        None => Ok(NULL),
+        Some(n) => memory.malloc(n),
+    }
+}
+
+// How many cells so many bytes hold, in objects of a type. None, where they hold no object.
+fn cells_asked(bytes: i64, each: Extent) -> Option<u128>
+    ensures { result ≡ spec.cells_asked bytes each }
+{
+    if bytes < 0 || each.size == 0 {
+        return None;
+    }
+    let count = bytes as u64 / u64::from(each.size);
+    if count == 0 {
+        return None;
+    }
+    Some(u128::from(count) * u128::from(each.cells))
 }
 
 // What comes next after the last of these actions.
@@ -111,17 +177,5 @@ fn after(part: Part) -> Stage
         Part::Own => Stage::Between,
         Part::Start => Stage::Testing,
         Part::Last => Stage::Testing,
-    }
-}
-
-// The serial of a variable, or 0.
-fn serial_of(k: usize, variables: &Variables) -> u64
-    requires { variables.now.first + variables.now.count < 2 ^ 64 }
-    ensures { result ≡ (variable_of k variables.now).serial }
-{
-    if k < variables.count {
-        variables.first + k as u64
-    } else {
-        0
     }
 }

@@ -10,8 +10,8 @@ ghost use Rattle.c_meaning.specs.Value as spec;
 use crate::frame::Frame;
 use crate::level::{Part, Stage, actions_before, target_before};
 use crate::levels::push;
-use crate::number::{narrowed, number};
 use crate::running::{Running, Step, block};
+use crate::value::read;
 use c_kernel::program::Function;
 use c3_base::{Cell, NoMemory};
 use mpi_words::End;
@@ -81,10 +81,7 @@ impl Running {
         push(&mut caller.levels, next, Stage::Acting { part, at })?;
         match target {
             None => self.go_on(caller, false),
-            Some(target) => {
-                let v = number(narrowed(target.kind, v.word));
-                self.store(caller, &target.place, v)
-            }
+            Some(target) => self.store(caller, &target.place, read(target.kind, v)),
         }
     }
 }

@@ -1,7 +1,6 @@
 //! Calls and returns.
 
 ghost use Rattle.std.specs.Prelude.{◌≡◌, ◌∷◌, ◌+◌, ◌<◌, ◌^◌, IfOk, IfErr, List, length, map};
-ghost use Rattle.c_kernel.specs.Extent as extent;
 ghost use Rattle.c_kernel.specs.declared.program.Function as program;
 ghost use Rattle.c_meaning.specs.Memory.{map_ok};
 ghost use Rattle.c_meaning.specs.Memory as spec;
@@ -14,8 +13,9 @@ use crate::frame::Frame;
 use crate::levels::first as first_levels;
 use crate::memory::Memory;
 use crate::running::{Running, Step, fault};
+use crate::spot::Spot;
 use crate::value::{Variables, values};
-use c_kernel::CType;
+use c_kernel::ObjectType;
 use c_kernel::program::{Expr, Function};
 use c3_base::{Cell, NoMemory};
 use std::alloc::{AllocError, Global};
@@ -109,23 +109,14 @@ fn lengths(alloc: Global, functions: &[Function], function: usize) -> Result<Vec
     }
 }
 
-fn cells_of(alloc: Global, types: &[CType]) -> Result<Vec<u32>, AllocError>
-    ensures { IfOk result (λ lengths. lengths.items ≡ map extent.cells types.now) }
+fn cells_of(alloc: Global, types: &[ObjectType]) -> Result<Vec<u32>, AllocError>
+    ensures { IfOk result (λ lengths. lengths.items ≡ map (λ t. t.cells) types.now) }
 {
     let mut lengths = Vec::new(alloc);
     for t in types {
-        lengths.push(cells(t))?;
+        lengths.push(t.cells)?;
     }
     Ok(lengths)
-}
-
-fn cells(t: &CType) -> u32
-    ensures { result ≡ extent.cells t.now }
-{
-    match t {
-        CType::Integer(_) => 1,
-        CType::Void => 0,
-    }
 }
 
 // The parameters get the values.
@@ -135,7 +126,7 @@ fn pass(memory: &mut Memory, first: u64, arguments: &[Cell])
 {
     let mut serial = first;
     for v in arguments {
-        memory.put(Cell { word: 0, serial }, *v);
+        memory.put(Spot { serial, place: 0 }, *v);
         serial += 1;
     }
 }

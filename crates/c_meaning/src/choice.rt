@@ -5,12 +5,10 @@ ghost use Rattle.c_kernel.specs.declared.program.Stmt as statement;
 ghost use Rattle.c_meaning.specs.Level.{branch_of};
 ghost use Rattle.c_meaning.specs.Memory.{map_ok};
 ghost use Rattle.c_meaning.specs.Step.{branch};
-ghost use Rattle.c_meaning.specs.Value as spec;
 
 use crate::memory::Memory;
-use crate::value::{Variables, value};
+use crate::value::{Variables, is_false, value};
 use c_kernel::program::{Arm, Stmt};
-use c3_base::Cell;
 
 /// Which branch of an `if` is taken, counted from 0.
 pub fn chosen(arms: &[Arm<Stmt>], variables: &Variables, memory: &Memory) -> Result<usize, u16>
@@ -20,16 +18,10 @@ pub fn chosen(arms: &[Arm<Stmt>], variables: &Variables, memory: &Memory) -> Res
     let mut at = 0;
     for arm in arms {
         let test = value(&arm.test, variables, memory)?;
-        if !is_zero(test) {
+        if !is_false(test) {
             return Ok(at);
         }
         at += 1;
     }
     Ok(at)
-}
-
-pub fn is_zero(a: Cell) -> bool
-    ensures { result ≡ spec.is_zero a.word }
-{
-    a.word == 0
 }

@@ -1,22 +1,27 @@
 //! The memory of a program.
 
-ghost use Rattle.std.specs.Prelude.{◌≡◌, ◌+◌, ◌<◌, ◌≤◌, ◌^◌, length, IfOk, IfErr, option_map, nat_lt};
+ghost use Rattle.std.specs.Prelude.{◌≡◌, ◌+◌, ◌<◌, ◌≤◌, ◌^◌, length, IfOk, IfErr, Some, option_map, false, nat_eq, nat_lt, pos};
 ghost use Rattle.c_meaning.specs.Memory as spec;
-ghost use Rattle.c_meaning.specs.Memory.{empty, cells_of, load, store, put, zeroed, used, enter, leave, map_ok, total, add_variable};
+ghost use Rattle.c_meaning.specs.Memory.{empty, cells_of, load, store, put, pointing, zeroed, used, enter, leave, grant, free, is_full, map_ok, total, add_variable};
+ghost use Rattle.c_meaning.specs.Step.{allocated};
 
-use crate::object::{Object, find, put, total_cells, zero};
+use crate::object::{Object, find, put, take_away, total_cells, zero};
+use crate::spot::{NULL, Spot};
 use c3_base::Cell;
 use std::alloc::{AllocError, Global};
 use std::marker::Model;
 
-/// The variables of the calls that are under way, the oldest first, the next serial, and how many calls and cells of variables there are.
+/// The variables of the calls that are under way and the objects of `malloc`, both the oldest first, the next serial, how many calls, cells of variables and cells of such objects there are, and how many cells `malloc` was ever asked for.
 #[derive(Drop)]
 pub struct Memory {
     alloc: Global,
     variables: Vec<Object>,
+    heap: Vec<Object>,
     next: u64,
     calls: usize,
     taken: usize,
+    live: usize,
+    asked: u32,
 }
 
 impl Model for Memory {
@@ -27,7 +32,7 @@ impl Model for Memory {
 
     ghost use Rattle.c_meaning.specs.Kept.{IsKept};
 
-    ghost view = { λ m. record { variables = objects_of m.variables.items; next = m.next; calls = m.calls } };
+    ghost view = { λ m. record { variables = objects_of m.variables.items; heap = objects_of m.heap.items; next = m.next; calls = m.calls; asked = m.asked } };
 
     ghost invariant = { IsKept };
 }
@@ -40,13 +45,16 @@ impl Memory {
         Memory {
             alloc,
             variables: Vec::new(alloc),
+            heap: Vec::new(alloc),
             next: 1,
             calls: 0,
             taken: 0,
+            live: 0,
+            asked: 0,
         }
     }
 
-    /// The serial of the next variable.
+    /// The serial of the next object.
     pub fn next(&self) -> u64
         ensures { result ≡ self.now.next }
     {
@@ -57,41 +65,60 @@ impl Memory {
     fn cells(&self, serial: u64) -> Option<&[Cell]>
         ensures { option_map (λ cells. cells.now) result ≡ cells_of self.now serial }
     {
-        find(&self.variables, serial)
+        match find(&self.variables, serial) {
+            Some(cells) => Some(cells),
+            None => find(&self.heap, serial),
+        }
     }
 
-    /// The cell at a pointer's place, or a fault.
-    pub fn load(&self, pointer: Cell) -> Result<Cell, u16>
-        ensures { result ≡ load self.now pointer }
+    /// The cell at a place, or a fault.
+    pub fn load(&self, spot: Spot) -> Result<Cell, u16>
+        ensures { result ≡ load self.now spot }
     {
-        if pointer.serial == 0 {
+        if spot.serial == 0 {
             return Err(101);
         }
-        match self.cells(pointer.serial) {
+        match self.cells(spot.serial) {
             None => Err(103),
-            Some(cells) => cell_at(cells, pointer.word),
+            Some(cells) => cell_at(cells, spot.place),
         }
     }
 
-    /// Puts a cell at a pointer's place, or finds a fault and changes nothing.
-    pub fn store(&mut self, pointer: Cell, cell: Cell) -> Result<(), u16>
-        ensures done { map_ok (λ done. self.new) result ≡ store self.old pointer cell }
+    /// Puts a cell at a place, or finds a fault and changes nothing.
+    pub fn store(&mut self, spot: Spot, cell: Cell) -> Result<(), u16>
+        ensures done { map_ok (λ done. self.new) result ≡ store self.old spot cell }
         ensures same { IfErr result (λ code. self.new ≡ self.old) }
     {
-        match self.load(pointer) {
+        match self.load(spot) {
             Err(code) => Err(code),
             Ok(_) => {
-                self.put(pointer, cell);
+                self.put(spot, cell);
                 Ok(())
             }
         }
     }
 
-    /// Puts a cell at a pointer's place, without a test.
-    pub fn put(&mut self, pointer: Cell, cell: Cell)
-        ensures { self.new ≡ put self.old pointer cell }
+    /// Puts a cell at a place, without a test.
+    pub fn put(&mut self, spot: Spot, cell: Cell)
+        ensures { self.new ≡ put self.old spot cell }
     {
-        put(&mut self.variables, pointer, cell);
+        match find(&self.variables, spot.serial) {
+            Some(_) => put(&mut self.variables, spot, cell),
+            None => put(&mut self.heap, spot, cell),
+        }
+    }
+
+    /// A pointer to a place, which may be one past its object's last cell, or a fault.
+    pub fn pointing(&self, spot: Spot) -> Result<Cell, u16>
+        ensures { result ≡ pointing self.now spot }
+    {
+        if spot.serial == 0 {
+            return Err(110);
+        }
+        match self.cells(spot.serial) {
+            None => Err(103),
+            Some(cells) => pointer_within(cells, spot),
+        }
     }
 
     /// The cells of the object of a serial become (0, 0).
@@ -123,7 +150,7 @@ impl Memory {
         requires room { used self.old + n ≤ 8192 }
         ensures { IfOk result (λ done. self.new ≡ add_variable self.old n) }
     {
-        let cells = vec![in self.alloc; Cell { word: 0, serial: 0 }; n as usize]?;
+        let cells = vec![in self.alloc; NULL; n as usize]?;
         self.variables.push(Object {
             serial: self.next,
             cells,
@@ -143,6 +170,74 @@ impl Memory {
         self.taken -= gone;
         self.calls = self.calls.saturating_sub(1);
     }
+
+    /// A pointer to a new object of so many cells, or NULL where the objects of `malloc` would then have more than 65,536.
+    pub fn malloc(&mut self, n: u128) -> Result<Cell, AllocError>
+        requires { self.old.next + 1 < 2 ^ 64 }
+        ensures given { IfOk result (λ given. (self.new, given) ≡ allocated is_full self.old n) }
+        ensures refused { IfOk result (λ given. nat_eq given.serial 0 ≡ is_full self.old n) }
+    {
+        if self.is_full(n) {
+            self.asked = asked_with(self.asked, n);
+            return Ok(NULL);
+        }
+        self.grant(n as u32)
+    }
+
+    // Whether objects of malloc have no room for so many cells more.
+    fn is_full(&self, n: u128) -> bool
+        ensures { result ≡ is_full self.now n }
+    {
+        n > 65_536 || self.live + n as usize > 65_536
+    }
+
+    // A new object of so many cells, for which there is room.
+    fn grant(&mut self, n: u32) -> Result<Cell, AllocError>
+        requires next { self.old.next + 1 < 2 ^ 64 }
+        requires room { is_full self.old n ≡ false }
+        ensures memory { IfOk result (λ given. self.new ≡ grant self.old n) }
+        ensures pointer { IfOk result (λ given. given ≡ spec.pointer self.old.next (pos 0)) }
+    {
+        let cells = vec![in self.alloc; NULL; n as usize]?;
+        let serial = self.next;
+        self.heap.push(Object { serial, cells })?;
+        self.next += 1;
+        self.live += n as usize;
+        self.asked = asked_with(self.asked, u128::from(n));
+        Ok(Cell { word: 0, serial })
+    }
+
+    /// Frees an object of `malloc`, or finds a fault and changes nothing.
+    pub fn free(&mut self, pointer: Cell) -> Result<(), u16>
+        ensures done { map_ok (λ done. self.new) result ≡ free self.old pointer }
+        ensures same { IfErr result (λ code. self.new ≡ self.old) }
+    {
+        if pointer.serial == 0 {
+            return Ok(());
+        }
+        if find(&self.variables, pointer.serial).is_some() {
+            return Err(104);
+        }
+        if find(&self.heap, pointer.serial).is_none() {
+            return Err(103);
+        }
+        if pointer.word != 0 {
+            return Err(104);
+        }
+        self.live -= take_away(&mut self.heap, pointer.serial);
+        Ok(())
+    }
+}
+
+// The cells that malloc was ever asked for, with these.
+fn asked_with(asked: u32, n: u128) -> u32
+    ensures { result ≡ spec.asked_with asked n }
+{
+    if n > 65_536 || u128::from(asked) + n > 65_536 {
+        65_537
+    } else {
+        asked + n as u32
+    }
 }
 
 // Whether so many cells and these are more than the stack's 8,192.
@@ -161,14 +256,24 @@ fn is_over(lengths: &[u32], from: usize) -> bool
 }
 
 // The cell at a place.
-fn cell_at(cells: &[Cell], place: i64) -> Result<Cell, u16>
+fn cell_at(cells: &[Cell], place: i128) -> Result<Cell, u16>
     ensures { result ≡ spec.cell_at cells.now place }
 {
-    if place < 0 {
+    if place < 0 || place >= cells.len() as i128 {
         return Err(102);
     }
-    match cells.get(place as usize) {
-        None => Err(102),
-        Some(cell) => Ok(*cell),
+    Ok(cells[place as usize])
+}
+
+// A pointer to a place in an object with these cells.
+fn pointer_within(cells: &[Cell], spot: Spot) -> Result<Cell, u16>
+    ensures { result ≡ spec.pointing_in (Some cells.now) spot }
+{
+    if spot.place < 0 || spot.place > cells.len() as i128 {
+        return Err(110);
     }
+    Ok(Cell {
+        word: spot.place as i64,
+        serial: spot.serial,
+    })
 }

@@ -56,8 +56,8 @@ fn fits(kind: IntegerType, n: i128) -> bool
     }
 }
 
-// A result outside its type is a fault.
-fn checked(kind: IntegerType, n: i128) -> Result<Cell, u16>
+/// A result outside its type is a fault.
+pub fn checked(kind: IntegerType, n: i128) -> Result<Cell, u16>
     ensures { result ≡ spec.checked kind n }
 {
     if fits(kind, n) {

@@ -1,10 +1,12 @@
 //! Objects by their serials.
 
-ghost use Rattle.std.specs.Prelude.{◌≡◌, ◌<◌, ◌^◌, ℕ, option_map, length, replicate, IfSome};
+ghost use Rattle.std.specs.Prelude.{◌≡◌, ◌+◌, ◌<◌, ◌^◌, ℕ, option_map, length, replicate, IfSome};
 ghost use Rattle.c_meaning.specs.Order.{IsRising, place_of};
 ghost use Rattle.c_meaning.specs.Seen.{serial_of, objects_of};
-ghost use Rattle.c_meaning.specs.Memory.{find_object, put_cell, zero_object, with_cell, cells_in, null};
+ghost use Rattle.c_meaning.specs.Memory as memory;
+ghost use Rattle.c_meaning.specs.Memory.{find_object, put_cell, zero_object, without, with_cell, cells_in};
 
+use crate::spot::{NULL, Spot};
 use c3_base::Cell;
 
 /// An object.
@@ -48,23 +50,23 @@ pub fn find(objects: &[Object], serial: u64) -> Option<&[Cell]>
     }
 }
 
-/// Puts a cell at a pointer's place.
-pub fn put(objects: &mut Vec<Object>, pointer: Cell, cell: Cell)
+/// Puts a cell at a place.
+pub fn put(objects: &mut Vec<Object>, spot: Spot, cell: Cell)
     requires { IsRising serial_of 0 objects.old.items (2 ^ 64) }
     ensures cells { cells_in (objects_of objects.new.items) ≡ cells_in (objects_of objects.old.items) }
-    ensures put { objects_of objects.new.items ≡ put_cell (objects_of objects.old.items) pointer cell }
+    ensures put { objects_of objects.new.items ≡ put_cell (objects_of objects.old.items) spot cell }
     ensures rising { (low : ℕ) → (high : ℕ) → IsRising serial_of low objects.old.items high → IsRising serial_of low objects.new.items high }
 {
-    if let Some(i) = place(objects, pointer.serial) {
-        put_in(&mut objects[i].cells, pointer.word, cell);
+    if let Some(i) = place(objects, spot.serial) {
+        put_in(&mut objects[i].cells, spot.place, cell);
     }
 }
 
 // Puts a cell among others.
-fn put_in(cells: &mut Vec<Cell>, at: i64, cell: Cell)
+fn put_in(cells: &mut Vec<Cell>, at: i128, cell: Cell)
     ensures { cells.new.items ≡ with_cell cells.old.items at cell }
 {
-    if at >= 0 && (at as usize) < cells.len() {
+    if at >= 0 && at < cells.len() as i128 {
         cells[at as usize] = cell;
     }
 }
@@ -83,9 +85,26 @@ pub fn zero(objects: &mut Vec<Object>, serial: u64)
 
 // All cells become (0, 0).
 fn clear(cells: &mut Vec<Cell>)
-    ensures { cells.new.items ≡ replicate (length cells.old.items) null }
+    ensures { cells.new.items ≡ replicate (length cells.old.items) memory.null }
 {
-    cells.fill(Cell { word: 0, serial: 0 });
+    cells.fill(NULL);
+}
+
+/// Takes the object of a serial away, and says how many cells it had.
+pub fn take_away(objects: &mut Vec<Object>, serial: u64) -> usize
+    requires { IsRising serial_of 0 objects.old.items (2 ^ 64) }
+    ensures cells { cells_in (objects_of objects.new.items) + result ≡ cells_in (objects_of objects.old.items) }
+    ensures gone { objects_of objects.new.items ≡ without (objects_of objects.old.items) serial }
+    ensures rising { (low : ℕ) → (high : ℕ) → IsRising serial_of low objects.old.items high → IsRising serial_of low objects.new.items high }
+{
+    match place(objects, serial) {
+        None => 0,
+        Some(i) => {
+            let object = objects.remove(i);
+            let cells: &[Cell] = &object.cells;
+            cells.len()
+        }
+    }
 }
 
 /// How many cells these objects have.

@@ -2,6 +2,7 @@
 
 ghost use Rattle.std.specs.Prelude.{◌≡◌, ◌<◌, ◌^◌, IfOk, List};
 ghost use Rattle.c_meaning.specs.Level.{level_items};
+ghost use Rattle.c_meaning.specs.Memory.{is_full};
 ghost use Rattle.c_meaning.specs.State.{Item};
 ghost use Rattle.c_kernel.specs.declared.program.Program as program;
 ghost use Rattle.c_meaning.specs.Rank.{functions_of, state_of};
@@ -37,7 +38,7 @@ impl Rank {
         Ok(Rank { program, running })
     }
 
-    /// The serial of the next variable.
+    /// The serial of the next object.
     pub fn next_serial(&self) -> u64
         ensures { result ≡ (state_of self.now).memory.next }
     {
@@ -58,7 +59,7 @@ impl Rank {
     pub fn step(&mut self) -> Result<Step, NoMemory>
         requires { (state_of self.old).memory.next < 2 ^ 62 }
         ensures program { functions_of self.new ≡ functions_of self.old }
-        ensures step { IfOk result (λ did. spec.outcome_of did (state_of self.new) ≡ step.step (functions_of self.old) (state_of self.old)) }
+        ensures step { IfOk result (λ did. spec.outcome_of did (state_of self.new) ≡ step.step (functions_of self.old) is_full (state_of self.old)) }
     {
         self.running.step(self.program.functions.as_slice())
     }

@@ -4,8 +4,7 @@ ghost use Rattle.std.specs.Prelude.{◌≡◌, ◌+◌, ◌≤◌, IfOk, Some, N
 ghost use Rattle.c_meaning.specs.Step.{bytes_of};
 
 use c3_base::NoMemory;
-use mpi_words::{List, Op};
-use std::alloc::Global;
+use mpi_words::Op;
 
 /// How many bytes a rank printed, and the operation that waits for its reply.
 #[derive(Drop)]
@@ -58,21 +57,11 @@ fn bytes(asked: &Option<Op>) -> u64
 }
 
 /// The same operation.
-pub fn copy(alloc: Global, op: &Op) -> Result<Op, NoMemory>
+pub fn copy(op: &Op) -> Result<Op, NoMemory>
     ensures { IfOk result (λ copy. copy ≡ op.now) }
 {
     match op {
-        Op::Output(text) => Ok(Op::Output(copy_text(alloc, text.as_slice())?)),
+        Op::Output(text) => Ok(Op::Output(text.copy()?)),
         Op::Mark => Ok(Op::Mark),
     }
-}
-
-fn copy_text(alloc: Global, text: &[u8]) -> Result<List<u8>, NoMemory>
-    ensures { IfOk result (λ copy. copy ≡ text.now) }
-{
-    let mut copy = List::new(alloc);
-    for byte in text {
-        copy.push(*byte)?;
-    }
-    Ok(copy)
 }

@@ -8,7 +8,9 @@ ghost use Rattle.c_meaning.specs.Level as level;
 ghost use Rattle.c_kernel.specs.declared.program.Function as program;
 ghost use Rattle.c_meaning.specs.Running.{todo, block_of, state_of, outcome_of, in_call, standing};
 ghost use Rattle.c_meaning.specs.State.{Rest, after_loop, to_loop};
-ghost use Rattle.c_meaning.specs.Step.{goes_to, asks, goes_on, does, branch, prints, returned, with_ok, bytes_of};
+ghost use Rattle.c_meaning.specs.Memory as memory;
+ghost use Rattle.c_meaning.specs.Memory.{is_full};
+ghost use Rattle.c_meaning.specs.Step.{goes_to, goes_with, asks, goes_on, does, branch, prints, returned, with_ok, bytes_of};
 ghost use Rattle.c_meaning.specs.Text.{printed};
 ghost use Rattle.c_meaning.specs.Value.{value_of, values_of};
 
@@ -22,7 +24,7 @@ use crate::requests::copy;
 use crate::running::{Running, Step, block, fault};
 use crate::value::{value, values};
 use c_kernel::program::{Arm, Expr, Function, Piece, Stmt};
-use c3_base::NoMemory;
+use c3_base::{Cell, NoMemory};
 use mpi_words::{List, Op};
 
 impl Running {
@@ -33,7 +35,7 @@ impl Running {
         frame: Frame,
         next: usize,
     ) -> Result<Step, NoMemory>
-        ensures { IfOk result (λ did. outcome_of did (state_of functions.now self.new) ≡ in_call (goes_on functions.now) functions.now self.old frame (standing functions.now frame next Begun)) }
+        ensures { IfOk result (λ did. outcome_of did (state_of functions.now self.new) ≡ in_call (goes_on functions.now is_full) functions.now self.old frame (standing functions.now frame next Begun)) }
     {
         let block = block(functions, &frame);
         match begun(block, next) {
@@ -80,6 +82,7 @@ impl Running {
             Stmt::Print { format, arguments } => {
                 self.print(frame, next, format.as_slice(), arguments.as_slice())
             }
+            Stmt::Free(e) => self.free(frame, next, e),
             Stmt::Mark => self.ask(frame, next, Op::Mark),
         }
     }
@@ -132,6 +135,25 @@ impl Running {
         }
     }
 
+    // `free`.
+    fn free(&mut self, frame: Frame, next: usize, e: &Expr) -> Result<Step, NoMemory>
+        ensures { IfOk result (λ did. (functions : List program.Function) → outcome_of did (state_of functions self.new) ≡ with_ok (value_of e.now frame.variables self.old.memory) (λ p. with_ok (memory.free self.old.memory p) (in_call goes_with functions self.old frame (standing functions frame next Between)))) }
+    {
+        match value(e, &frame.variables, &self.memory) {
+            Err(code) => fault(code),
+            Ok(pointer) => self.free_object(frame, next, pointer),
+        }
+    }
+
+    fn free_object(&mut self, frame: Frame, next: usize, pointer: Cell) -> Result<Step, NoMemory>
+        ensures { IfOk result (λ did. (functions : List program.Function) → outcome_of did (state_of functions self.new) ≡ with_ok (memory.free self.old.memory pointer) (in_call goes_with functions self.old frame (standing functions frame next Between))) }
+    {
+        match self.memory.free(pointer) {
+            Err(code) => fault(code),
+            Ok(()) => self.put(frame, next, Stage::Between),
+        }
+    }
+
     // `printf`.
     fn print(
         &mut self,
@@ -162,7 +184,7 @@ impl Running {
         requires { self.old.requests.printed + bytes_of (Some op) ≤ 1048576 }
         ensures { IfOk result (λ did. (functions : List program.Function) → outcome_of did (state_of functions self.new) ≡ in_call asks functions self.old frame (standing functions frame next Between) op) }
     {
-        let asked = copy(self.alloc, &op)?;
+        let asked = copy(&op)?;
         push(&mut frame.levels, next, Stage::Between)?;
         self.frames.push(frame)?;
         self.requests.ask(op);

@@ -2,6 +2,7 @@
 
 ghost use Rattle.std.specs.Prelude.{◌≡◌, ◌<◌, ◌^◌, IfOk};
 ghost use Rattle.c_meaning.specs.declared.level.Stage.TheVariants.{Between};
+ghost use Rattle.c_meaning.specs.Memory.{is_full};
 ghost use Rattle.c_meaning.specs.Running.{below, state_of, outcome_of, in_call, standing};
 ghost use Rattle.c_meaning.specs.Step.{goes_on, step_in};
 ghost use Rattle.c_meaning.specs.Step as spec;
@@ -19,17 +20,17 @@ impl Running {
     /// One step.
     pub fn step(&mut self, functions: &[Function]) -> Result<Step, NoMemory>
         requires { self.old.memory.next < 2 ^ 62 }
-        ensures { IfOk result (λ did. outcome_of did (state_of functions.now self.new) ≡ spec.step functions.now (state_of functions.now self.old)) }
+        ensures { IfOk result (λ did. outcome_of did (state_of functions.now self.new) ≡ spec.step functions.now is_full (state_of functions.now self.old)) }
     {
         match &self.requests.asked {
             None => self.step_in(functions),
-            Some(op) => Ok(Step::Wants(copy(self.alloc, op)?)),
+            Some(op) => Ok(Step::Wants(copy(op)?)),
         }
     }
 
     fn step_in(&mut self, functions: &[Function]) -> Result<Step, NoMemory>
         requires { self.old.memory.next < 2 ^ 62 }
-        ensures { IfOk result (λ did. outcome_of did (state_of functions.now self.new) ≡ step_in functions.now (state_of functions.now self.old) (below functions.now self.old)) }
+        ensures { IfOk result (λ did. outcome_of did (state_of functions.now self.new) ≡ step_in functions.now is_full (state_of functions.now self.old) (below functions.now self.old)) }
     {
         let Some(mut frame) = self.frames.pop() else {
             return fault(108);
@@ -49,7 +50,7 @@ impl Running {
         stage: Stage,
     ) -> Result<Step, NoMemory>
         requires { self.old.memory.next < 2 ^ 62 }
-        ensures { IfOk result (λ did. outcome_of did (state_of functions.now self.new) ≡ in_call (goes_on functions.now) functions.now self.old frame (standing functions.now frame next stage)) }
+        ensures { IfOk result (λ did. outcome_of did (state_of functions.now self.new) ≡ in_call (goes_on functions.now is_full) functions.now self.old frame (standing functions.now frame next stage)) }
     {
         match stage {
             Stage::Entering => {
@@ -72,7 +73,7 @@ impl Running {
         mut frame: Frame,
         next: usize,
     ) -> Result<Step, NoMemory>
-        ensures { IfOk result (λ did. outcome_of did (state_of functions.now self.new) ≡ in_call (goes_on functions.now) functions.now self.old frame (standing functions.now frame next Between)) }
+        ensures { IfOk result (λ did. outcome_of did (state_of functions.now self.new) ≡ in_call (goes_on functions.now is_full) functions.now self.old frame (standing functions.now frame next Between)) }
     {
         let block = block(functions, &frame);
         if block.len() <= next {

@@ -10,11 +10,10 @@ ghost use Rattle.c_meaning.specs.Running.{block_of, state_of, outcome_of, in_cal
 ghost use Rattle.c_meaning.specs.State.{Rest};
 ghost use Rattle.c_meaning.specs.Step.{tests, steps, turns};
 
-use crate::choice::is_zero;
 use crate::frame::Frame;
 use crate::level::{Part, Stage, begun};
 use crate::running::{Running, Step, block, fault};
-use crate::value::value;
+use crate::value::{is_false, value};
 use c_kernel::program::{Expr, Function, Stmt};
 use c3_base::NoMemory;
 
@@ -70,7 +69,7 @@ impl Running {
         match value(test, &frame.variables, &self.memory) {
             Err(code) => fault(code),
             Ok(v) => {
-                if is_zero(v) {
+                if is_false(v) {
                     self.put(frame, next, Stage::Between)
                 } else {
                     self.put_inside(frame, next, stage, 0)

@@ -2,13 +2,15 @@
 
 ghost use Rattle.std.specs.Prelude.{◌≡◌, ◌+◌, ◌<◌, ◌^◌, IfOk, Ok, map};
 ghost use Rattle.c_meaning.specs.Memory.{map_ok};
-ghost use Rattle.c_meaning.specs.Value.{read_of, load_of, converted, compare_of, and_of, or_of, chained, link_of, variable_of, value_of, values_of};
+ghost use Rattle.c_meaning.specs.Value.{read_of, load_of, converted, compare_of, and_of, or_of, chained, link_of, variable_of, root_of, root_meaning, step_meaning, place_of, value_of, values_of};
 ghost use Rattle.c_meaning.specs.Value as spec;
 
 use crate::memory::Memory;
 use crate::number::{arithmetic, holds, literal, narrowed, number, shift, truth, unary};
+use crate::pointer::{advanced, compare_pointers, distance};
+use crate::spot::{NULL, Spot, moved};
 use c_kernel::IntegerType;
-use c_kernel::program::{BinaryOperator, Comparison, Expr, Link};
+use c_kernel::program::{BinaryOperator, Comparison, Expr, Link, Place, Root, Scalar, Selection};
 use c3_base::Cell;
 use std::alloc::{AllocError, Global};
 
@@ -22,24 +24,23 @@ pub struct Variables {
 
 /// The value of an expression, or the code of a fault.
 #[cycle(walk)]
+#[tactic(auto, using(crate::proofs::Nodes::value_load, crate::proofs::Nodes::value_address))]
 pub fn value(e: &Expr, variables: &Variables, memory: &Memory) -> Result<Cell, u16>
     requires { variables.now.first + variables.now.count < 2 ^ 64 }
     ensures { result ≡ value_of e.now variables.now memory.now }
 {
     match e {
         Expr::Number { value, kind } => Ok(number(literal(*kind, *value))),
-        Expr::Variable(k) => Ok(variable(*k, variables)),
-        Expr::Load { place, kind } => {
-            let place = value(place.get(), variables, memory)?;
-            load(memory, *kind, place)
-        }
+        Expr::Null => Ok(NULL),
+        Expr::Load { place: p, kind } => load(memory, *kind, place(p, variables, memory)?),
+        Expr::Address(p) => memory.pointing(place(p, variables, memory)?),
         Expr::Convert { kind, operand } => {
             let a = value(operand.get(), variables, memory)?;
-            Ok(read(*kind, a))
+            Ok(number(narrowed(*kind, a.word)))
         }
         Expr::Not(operand) => {
             let a = value(operand.get(), variables, memory)?;
-            Ok(truth(is_zero(a)))
+            Ok(truth(is_false(a)))
         }
         Expr::Unary {
             operator,
@@ -59,12 +60,59 @@ pub fn value(e: &Expr, variables: &Variables, memory: &Memory) -> Result<Cell, u
             otherwise,
         } => {
             let a = value(test.get(), variables, memory)?;
-            if is_zero(a) {
+            if is_false(a) {
                 value(otherwise.get(), variables, memory)
             } else {
                 value(then.get(), variables, memory)
             }
         }
+    }
+}
+
+/// Where a place is, which nothing has tested, or the code of a fault.
+#[cycle(walk)]
+pub fn place(p: &Place<Expr>, variables: &Variables, memory: &Memory) -> Result<Spot, u16>
+    requires { variables.now.first + variables.now.count < 2 ^ 64 }
+    ensures { result ≡ place_of p.now variables.now memory.now }
+{
+    let mut spot = root(&p.root, variables, memory)?;
+    for step in p.steps.as_slice() {
+        spot = selected(spot, step, variables, memory)?;
+    }
+    Ok(spot)
+}
+
+#[cycle(walk)]
+fn root(root: &Root<Expr>, variables: &Variables, memory: &Memory) -> Result<Spot, u16>
+    requires { variables.now.first + variables.now.count < 2 ^ 64 }
+    ensures { result ≡ root_of (root_meaning root.now) variables.now memory.now }
+{
+    match root {
+        Root::Variable(k) => Ok(variable(*k, variables)),
+        Root::Target(e) => {
+            let p = value(e.get(), variables, memory)?;
+            Ok(Spot::of(p))
+        }
+    }
+}
+
+// What is selected at a place.
+#[cycle(walk)]
+fn selected(
+    spot: Spot,
+    step: &Selection<Expr>,
+    variables: &Variables,
+    memory: &Memory,
+) -> Result<Spot, u16>
+    requires { variables.now.first + variables.now.count < 2 ^ 64 }
+    ensures { result ≡ spec.selected spot (step_meaning step.now) variables.now memory.now }
+{
+    match step {
+        Selection::Element { index, cells } => {
+            let n = value(index, variables, memory)?;
+            moved(spot, i128::from(n.word) * i128::from(*cells))
+        }
+        Selection::Member { place, .. } => moved(spot, i128::from(*place)),
     }
 }
 
@@ -96,9 +144,11 @@ fn linked(
     memory: &Memory,
 ) -> Result<Cell, u16>
     requires { variables.now.first + variables.now.count < 2 ^ 64 }
-    ensures { result ≡ spec.linked operator a (value_of e.now variables.now memory.now) }
+    ensures { result ≡ spec.linked operator memory.now a (value_of e.now variables.now memory.now) }
 {
     match operator {
+        BinaryOperator::And => both(a, e, variables, memory),
+        BinaryOperator::Or => either(a, e, variables, memory),
         BinaryOperator::Arithmetic { operator, kind } => {
             let b = value(e, variables, memory)?;
             arithmetic(operator, kind, a.word, b.word)
@@ -111,8 +161,18 @@ fn linked(
             let b = value(e, variables, memory)?;
             Ok(compare(comparison, a, b))
         }
-        BinaryOperator::And => both(a, e, variables, memory),
-        BinaryOperator::Or => either(a, e, variables, memory),
+        BinaryOperator::Advance { way, cells } => {
+            let b = value(e, variables, memory)?;
+            advanced(memory, way, cells, a, b)
+        }
+        BinaryOperator::Distance { cells } => {
+            let b = value(e, variables, memory)?;
+            distance(cells, a, b)
+        }
+        BinaryOperator::PointerComparison(comparison) => {
+            let b = value(e, variables, memory)?;
+            compare_pointers(comparison, a, b)
+        }
     }
 }
 
@@ -122,11 +182,11 @@ fn both(a: Cell, e: &Expr, variables: &Variables, memory: &Memory) -> Result<Cel
     requires { variables.now.first + variables.now.count < 2 ^ 64 }
     ensures { result ≡ and_of a (value_of e.now variables.now memory.now) }
 {
-    if is_zero(a) {
+    if is_false(a) {
         return Ok(truth(false));
     }
     let b = value(e, variables, memory)?;
-    Ok(truth(!is_zero(b)))
+    Ok(truth(!is_false(b)))
 }
 
 // `||`.
@@ -135,11 +195,11 @@ fn either(a: Cell, e: &Expr, variables: &Variables, memory: &Memory) -> Result<C
     requires { variables.now.first + variables.now.count < 2 ^ 64 }
     ensures { result ≡ or_of a (value_of e.now variables.now memory.now) }
 {
-    if !is_zero(a) {
+    if !is_false(a) {
         return Ok(truth(true));
     }
     let b = value(e, variables, memory)?;
-    Ok(truth(!is_zero(b)))
+    Ok(truth(!is_false(b)))
 }
 
 /// Several values, from left to right.
@@ -162,40 +222,47 @@ pub fn values(
     Ok(Ok(found))
 }
 
-// The place of a variable.
-fn variable(k: usize, variables: &Variables) -> Cell
+/// The place of a variable.
+pub fn variable(k: usize, variables: &Variables) -> Spot
     requires { variables.now.first + variables.now.count < 2 ^ 64 }
     ensures { result ≡ variable_of k variables.now }
 {
     if k < variables.count {
-        Cell {
-            word: 0,
+        Spot {
             serial: variables.first + k as u64,
+            place: 0,
         }
     } else {
-        Cell { word: 0, serial: 0 }
+        Spot {
+            serial: 0,
+            place: 0,
+        }
     }
 }
 
-// The number at a place.
-fn load(memory: &Memory, kind: IntegerType, place: Cell) -> Result<Cell, u16>
-    ensures { result ≡ load_of memory.now kind place }
+// What stands at a place.
+fn load(memory: &Memory, kind: Scalar, spot: Spot) -> Result<Cell, u16>
+    ensures { result ≡ load_of memory.now kind spot }
 {
-    let cell = memory.load(place)?;
+    let cell = memory.load(spot)?;
     Ok(read(kind, cell))
 }
 
-// A cell's word as a number of a type.
-fn read(kind: IntegerType, cell: Cell) -> Cell
-    ensures { Ok result ≡ read_of kind cell }
+/// What a cell is read as.
+pub fn read(kind: Scalar, cell: Cell) -> Cell
+    ensures { result ≡ read_of kind cell }
 {
-    number(narrowed(kind, cell.word))
+    match kind {
+        Scalar::Number(kind) => number(narrowed(kind, cell.word)),
+        Scalar::Pointer => { if cell.serial == 0 { NULL } else { cell } }
+    }
 }
 
-fn is_zero(a: Cell) -> bool
-    ensures { result ≡ spec.is_zero a.word }
+/// Whether it is the number 0, or NULL.
+pub fn is_false(a: Cell) -> bool
+    ensures { result ≡ spec.is_false a }
 {
-    a.word == 0
+    a.serial == 0 && a.word == 0
 }
 
 // The left operand of an operator.

@@ -1,11 +1,12 @@
 -- The plain job: N ranks without checkpoints, and its failure-free runs.
-use Rattle.std.specs.Prelude.{◌≡◌, ℕ, suc, List, [], ◌∷◌, ◌++◌, replicate, Option, Some, None, slice_get, slice_set}
+use Rattle.std.specs.Prelude.{◌≡◌, ℕ, suc, Bool, List, [], ◌∷◌, ◌++◌, replicate, Option, Some, None, slice_get, slice_set}
 use Rattle.mpi_words.specs.declared.operation.Op.{Op}
 use Rattle.mpi_words.specs.declared.operation.Op.TheVariants as op
 use Rattle.mpi_words.specs.declared.operation.End.{End}
 use Rattle.mpi_words.specs.declared.operation.Reply.TheVariants.{Done}
 use Rattle.c_kernel.specs.declared.program.Function.{Function}
 use Rattle.c_kernel.specs.declared.program.Program.{Program}
+use Rattle.c_meaning.specs.Memory.{Memory}
 use Rattle.c_meaning.specs.State.{State, Outcome, Goes, Asks, Ends}
 use Rattle.c_meaning.specs.Step.{start, step, answered}
 
@@ -40,14 +41,13 @@ after r (Goes began s) = record r { standing = Runs s }
 after r (Asks o s) = record r { standing = Runs (answered s Done); output = r.output ++ text_of o; ops = suc r.ops }
 after r (Ends e) = record r { standing = Ended e }
 
--- what a step of a rank does. A rank that has ended stays so
-abbrev pub outcome : List Function → Standing → Outcome
-outcome functions (Runs s) = step functions s
-outcome functions (Ended e) = Ends e
+-- what a step of a rank does, with a choice where its malloc may give NULL. A rank that has ended stays so
+abbrev pub outcome : List Function → (Memory → ℕ → Bool) → Standing → Outcome
+outcome functions refuses (Runs s) = step functions refuses s
+outcome functions refuses (Ended e) = Ends e
 
--- a move is a step of one rank
-abbrev pub moved : List Function → Rank → Rank
-moved functions r = after r (outcome functions r.standing)
+abbrev pub moved : List Function → (Memory → ℕ → Bool) → Rank → Rank
+moved functions refuses r = after r (outcome functions refuses r.standing)
 
 -- the ranks
 abbrev pub Job : Type 0
@@ -56,18 +56,23 @@ Job = List Rank
 abbrev pub start_job : Program → ℕ → Job
 start_job p n = replicate n (first p)
 
--- the job after a move of its k-th rank
-abbrev pub move : List Function → Job → ℕ → Job
-move functions job k = elim (slice_get job k) [ None ↦ job | Some r ↦ slice_set job k (moved functions r) ]
+-- a move is a step of one rank, in which malloc gives NULL, where it may, or doesn't
+pub record Move : Type 0 where
+  pub rank : ℕ
+  pub refuses : Bool
 
--- a run is a list of moves, each of a rank
-abbrev pub run : List Function → Job → List ℕ → Job
+-- the job after a move
+abbrev pub move : List Function → Job → Move → Job
+move functions job a = elim (slice_get job a.rank) [ None ↦ job | Some r ↦ slice_set job a.rank (moved functions (λ m n. a.refuses) r) ]
+
+-- a run is a list of moves
+abbrev pub run : List Function → Job → List Move → Job
 run functions job [] = job
-run functions job (k ∷ ks) = run functions (move functions job k) ks
+run functions job (a ∷ moves) = run functions (move functions job a) moves
 
 -- a failure-free run of the program on so many ranks leads there
 pub record IsReached (p : Program) (n : ℕ) (job : Job) : Type 0 where
-  pub moves : List ℕ
+  pub moves : List Move
   pub leads : run p.functions (start_job p n) moves ≡ job
 
 -- what a job's k-th rank has printed, how many operations it has completed, and how it has ended

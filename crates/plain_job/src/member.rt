@@ -2,6 +2,7 @@
 
 ghost use Rattle.std.specs.Prelude.{◌≡◌, ◌<◌, ◌^◌, ◌++◌, suc, false, IfOk, None};
 ghost use Rattle.mpi_words.specs.declared.operation.Reply.TheVariants.{Done};
+ghost use Rattle.c_meaning.specs.Memory.{is_full};
 ghost use Rattle.c_meaning.specs.Rank.{state_of};
 ghost use Rattle.c_meaning.specs.Step.{answered};
 ghost use Rattle.plain_job.specs.Job.{first, moved, outcome, text_of};
@@ -44,8 +45,8 @@ impl Member {
         requires runs { self.old.end ≡ None }
         requires room { (state_of self.old.rank).memory.next < 2 ^ 62 }
         ensures functions { runs_of self.new ≡ runs_of self.old }
-        ensures step { IfOk result (λ last. rank_of self.new ≡ moved (runs_of self.old) (rank_of self.old)) }
-        ensures last { IfOk result (λ last. last ≡ is_last (outcome (runs_of self.old) (rank_of self.old).standing)) }
+        ensures step { IfOk result (λ last. rank_of self.new ≡ moved (runs_of self.old) is_full (rank_of self.old)) }
+        ensures last { IfOk result (λ last. last ≡ is_last (outcome (runs_of self.old) is_full (rank_of self.old).standing)) }
         ensures runs { IfOk result (λ last. last ≡ false → self.new.end ≡ None) }
     {
         match self.rank.step()? {

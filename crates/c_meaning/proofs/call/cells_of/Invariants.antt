@@ -1,6 +1,5 @@
 use Rattle.std.proofs.Common.{◌≡◌, map, take}
-use Rattle.c_kernel.specs.Extent.{cells}
 use Rattle.c_meaning.proofs.call.cells_of.Given as goal
 
 abbrev pub invariant-loop-t : goal.invariant-loop-t
-invariant-loop-t l = l.lengths.items ≡ map cells (take l.t-index l.types)
+invariant-loop-t l = l.lengths.items ≡ map (λ t. t.cells) (take l.t-index l.types)

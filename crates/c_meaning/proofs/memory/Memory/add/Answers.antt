@@ -2,7 +2,7 @@ use Rattle.std.proofs.Common.{◌≡◌, ◌+◌, ◌≤◌, arith, ap, ◌∙�
 use Rattle.std.proofs.lemmas.List.{length-replicate}
 use Rattle.c_meaning.specs.Memory.{cells_in, null, used}
 use Rattle.c_meaning.specs.Seen.{serial_of, objects_of}
-use Rattle.c_meaning.proofs.Finds.{rising_more, cells_append}
+use Rattle.c_meaning.proofs.Finds.{rising_more, rising_to, cells_append}
 use Rattle.c_meaning.proofs.memory.Memory.add.Goals as goal
 
 pub invariant_of-self-2 : goal.invariant_of-self-2
@@ -14,8 +14,12 @@ invariant_of-self-2 c =
     let us : c.self.inside.calls + cells_in (objects_of c.self.inside.variables.items) ≡ used c.args.self.now = ap used c.self.view_is in
     let r : c.self.inside.calls + c.self.inside.taken + c.args.n ≤ 8192 = omega (arith, us, s, c.requires.room) in
     record {
+      heap = rising_to serial_of 1 _ _ _ (omega arith) k.heap;
       variables = rw c.in_ok-push.ensures.items (rising_more serial_of 1 _ _ _ refl k.variables);
       next = omega (arith, c.requires.next, nx);
       taken = rw (c.in_ok-push.ensures.items, cells_append c.self.inside.variables.items (record { serial = c.self.inside.next; cells = c.in_ok-cells.cells }), l, s) refl;
       stack = omega (arith, r);
+      live = k.live;
+      most = k.most;
+      asked = k.asked;
     }

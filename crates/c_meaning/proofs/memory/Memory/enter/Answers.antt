@@ -8,7 +8,7 @@ use Rattle.c_meaning.proofs.Enters.{added_used, added_next, added_one}
 use Rattle.c_meaning.proofs.memory.Memory.enter.Goals as goal
 
 start : (c : goal.After-row_known-1) → Memory
-start c = record { variables = objects_of c.self.inside.variables.items; next = c.self.inside.next; calls = c.self.inside.calls + 1 }
+start c = record { variables = objects_of c.self.inside.variables.items; heap = objects_of c.self.inside.heap.items; next = c.self.inside.next; calls = c.self.inside.calls + 1; asked = c.self.inside.asked }
 
 pub add-requires-clause-next : goal.add-requires-clause-next
 unfolding start

@@ -38,9 +38,13 @@ invariant_of-self c =
     let g : c.total_cells-gone.result ≡ cells_in (objects_of (drop n os)) = gone c in
     record {
       variables = rw c.truncate.ensures.items (rising_take serial_of 1 os _ n k.variables);
+      heap = k.heap;
       next = k.next;
       taken = rw c.truncate.ensures.items (omega (arith, s, a, g));
       stack = omega (arith, b);
+      live = k.live;
+      most = k.most;
+      asked = k.asked;
     }
 
 pub returns : goal.returns
