@@ -7,7 +7,9 @@ use std::alloc::Global;
 use std::test::Fail;
 
 mod checks;
+mod pointers;
 mod runs;
+mod types;
 
 const TWO_RANKS: &str = "int main(void){int x=7;printf(\"%d\\n\",x);return 0;}";
 
