@@ -39,6 +39,13 @@ impl Channels {
         Ok(Channels { ranks: n, rows })
     }
 
+    /// How many ranks there are.
+    pub fn ranks(&self) -> u16
+        ensures { result ≡ length self.now }
+    {
+        self.ranks
+    }
+
     /// Adds a message at the end of its pair's list.
     pub fn send(&mut self, from: u16, to: u16, m: Message) -> Result<(), NoMemory>
         requires from { from < length self.old }

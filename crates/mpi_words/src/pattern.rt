@@ -3,10 +3,11 @@
 #[cfg(test)]
 mod tests;
 
-ghost use Rattle.std.specs.Prelude.{◌≡◌, [], ◌∷◌};
+ghost use Rattle.std.specs.Prelude.{◌≡◌, [], ◌∷◌, IfOk};
 ghost use Rattle.mpi_words.specs.Matching as spec;
 
 use crate::message::Message;
+use c3_base::NoMemory;
 use smallvec::SmallVec;
 use std::alloc::Global;
 use std::marker::Model;
@@ -78,5 +79,13 @@ impl Patterns {
         ensures { result.now ≡ self.now }
     {
         self.list.as_slice()
+    }
+
+    /// An equal list.
+    pub fn copy(&self) -> Result<Patterns, NoMemory>
+        ensures { IfOk result (λ copy. copy ≡ self.now) }
+    {
+        let list = SmallVec::from_slice(*self.list.allocator(), self.list.as_slice())?;
+        Ok(Patterns { list })
     }
 }
