@@ -8,10 +8,9 @@ use Rattle.c_tree.specs.declared.tree.BlockItem.TheVariants as block_item
 use Rattle.c_tree.specs.declared.tree.ForStart.TheVariants as for_start
 use Rattle.c_tree.specs.declared.tree.SimpleStatement.TheVariants as simple_form
 use Rattle.c_tree.specs.declared.tree.Step.TheVariants as step
-use Rattle.c_tree.specs.declared.tree.Constant.TheVariants as constant
 use Rattle.c_tree.specs.declared.token.Operator.TheVariants as operator
 use Rattle.c_tree.specs.declared.kind.Kind.TheVariants as kind
-use Rattle.c_check.proofs.SmallTrees.{EachRule, judging, named, figure, parameter, heading, variable, declaration, number, character, word, name, call, size, group, cast, prefix, link, chain, choice, block, empty, break, continue, compound, arm, branch, while, do_while, for, return, print, marked, finalize, simple, main_at, broken, fault}
+use Rattle.c_check.proofs.SmallTrees.{EachRule, judging, named, figure, parameter, heading, variable, declaration, number, character, name, call, size, group, cast, prefix, link, chain, choice, block, empty, break, continue, compound, arm, branch, while, do_while, for, return, print, marked, simple, main_at, broken, fault}
 
 -- ---- accepted
 
@@ -408,20 +407,3 @@ two_faults = simp judging refl
 name_before_count : broken ((main_at 0 ((block_item.Statement (simple (simple_form.Expression (call (named 15 (codes "f")) [])))) ∷ (block_item.Statement (simple (simple_form.Assign (name (named 19 (codes "x"))) 20 None (number (figure 21 1 false))))) ∷ (block_item.Statement (return 23 (Some (number (figure 30 0 false))))) ∷ [])) ∷ []) 33 ≡ fault kind.UnknownName 15 ∷ fault kind.UnknownName 19 ∷ []
 unfolding EachRule
 name_before_count = simp judging refl
-
--- ---- what isn't built yet stands before all rules
-
--- int f(MPI_Status s);int main(void){return 0;}
-status : broken ((item.Prototype (heading (specifier.Plain 0 plain.Int) 0 (named 4 (codes "f")) ((parameter (specifier.Plain 6 plain.Status) 0 (Some (named 17 (codes "s"))) None) ∷ []))) ∷ (main_at 20 ((block_item.Statement (return 35 (Some (number (figure 42 0 false))))) ∷ [])) ∷ []) 45 ≡ fault kind.NotYet 0 ∷ []
-unfolding EachRule
-status = simp judging refl
-
--- int main(void){MPI_Finalize();return 0;}
-call_of_mpi : broken ((main_at 0 ((block_item.Statement (finalize 15)) ∷ (block_item.Statement (return 30 (Some (number (figure 37 0 false))))) ∷ [])) ∷ []) 40 ≡ fault kind.NotYet 0 ∷ []
-unfolding EachRule
-call_of_mpi = simp judging refl
-
--- int main(void){return MPI_ANY_SOURCE;}
-constant_of_mpi : broken ((main_at 0 ((block_item.Statement (return 15 (Some (word 22 constant.AnySource)))) ∷ [])) ∷ []) 38 ≡ fault kind.NotYet 0 ∷ []
-unfolding EachRule
-constant_of_mpi = simp judging refl

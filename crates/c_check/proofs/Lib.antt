@@ -3,6 +3,7 @@ pub mod Examples
 pub mod PointerExamples
 pub mod StructExamples
 pub mod TypedExamples
+pub mod MpiExamples
 pub mod Nodes
 pub mod Least
 pub mod TypedParts

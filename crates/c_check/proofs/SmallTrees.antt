@@ -1,5 +1,5 @@
 -- Trees of small programs, and what the definition says of them.
-use Rattle.std.proofs.Common.{◌≡◌, ap, ℕ, ◌+◌, List, [], ◌∷◌, Option, Some, None, Bool, codes}
+use Rattle.std.proofs.Common.{◌≡◌, ap, ℕ, ◌+◌, List, [], ◌∷◌, ◌++◌, Option, Some, None, Bool, false, codes}
 use Rattle.c_tree.specs.declared.tree.Item.{Item}
 use Rattle.c_tree.specs.declared.tree.Item.TheVariants as item
 use Rattle.c_tree.specs.declared.tree.Heading.{Heading}
@@ -20,7 +20,9 @@ use Rattle.c_tree.specs.declared.tree.Arm.{Arm}
 use Rattle.c_tree.specs.declared.tree.ForStart.{ForStart}
 use Rattle.c_tree.specs.declared.tree.SimpleStatement.{SimpleStatement}
 use Rattle.c_tree.specs.declared.tree.Mark.TheVariants as mark
-use Rattle.c_tree.specs.declared.tree.MpiCall.TheVariants as mpi
+use Rattle.c_tree.specs.declared.tree.MpiCall.{MpiCall}
+use Rattle.c_tree.specs.declared.tree.Buffer.{Buffer}
+use Rattle.c_tree.specs.declared.tree.DatatypeWord.{DatatypeWord}
 use Rattle.c_tree.specs.declared.tree.Constant.{Constant}
 use Rattle.c_tree.specs.declared.tree.Access.{Access}
 use Rattle.c_tree.specs.declared.tree.MemberName.{MemberName}
@@ -33,6 +35,7 @@ use Rattle.c_tree.specs.declared.tree.Stmt.{Stmt}
 use Rattle.c_tree.specs.declared.tree.Stmt.TheFolds.{fold-roll-Stmt, map-Stmt}
 use Rattle.c_tree.specs.declared.tree.Stmt.TheOpen.{Stmt-F}
 use Rattle.c_tree.specs.declared.tree.Stmt.TheViews.{roll-Stmt}
+use Rattle.c_tree.specs.declared.token.Datatype.{Datatype}
 use Rattle.c_tree.specs.declared.token.Operator.{Operator}
 use Rattle.c_tree.specs.declared.kind.Kind.{Kind}
 use Rattle.c_kernel.specs.declared.types.CType.{CType}
@@ -41,10 +44,12 @@ use Rattle.c_kernel.specs.declared.types.IntegerType.{IntegerType}
 use Rattle.c_kernel.specs.declared.types.IntegerType.TheVariants as integer
 use Rattle.c_kernel.specs.declared.types.ObjectType.{ObjectType}
 use Rattle.c_kernel.specs.declared.types.Struct.{Struct}
+use Rattle.c_kernel.specs.declared.program.MpiFunction.{MpiFunction}
 use Rattle.c_kernel.specs.declared.program.Program.{Program}
 use Rattle.c_kernel.specs.declared.program.Stmt.{Stmt as Form}
 use Rattle.c_kernel.specs.declared.program.Stmt.TheVariants as typed
 use Rattle.c_kernel.specs.declared.program.Action.TheVariants as action
+use Rattle.c_kernel.specs.declared.program.Function.{Function}
 use Rattle.c_kernel.specs.declared.program.Expr.{Expr as Term}
 use Rattle.c_kernel.specs.declared.program.Expr.TheVariants as term
 use Rattle.c_kernel.specs.declared.program.Link.{Link as TypedLink}
@@ -58,16 +63,19 @@ use Rattle.c_rules.specs.declared.signature.Signature.{Signature}
 use Rattle.c_rules.specs.Judged.{Judged}
 use Rattle.c_rules.specs.Rules as rules
 use Rattle.c_rules.specs.Scope.{Bytes, Scope}
+use Rattle.c_rules.specs.Types.{first_structs}
 use Rattle.c_check.specs.Expression as expression
 use Rattle.c_check.specs.Expression.{Seen, seen, judged}
+use Rattle.c_check.specs.Mpi as calls
 use Rattle.c_check.specs.Statement as statement
-use Rattle.c_check.specs.Statement.{Node, walked}
+use Rattle.c_check.specs.Statement.{Node, walked, seen_as}
+use Rattle.c_check.specs.Program as checked
 use Rattle.c_check.specs.Program.{judged_tree}
 
 -- ---- all that a tree's rules compute with
 
 unfoldable pub EachRule : Type 0
-unfolding rules.unary rules.negation rules.dereference rules.address rules.cast rules.size_of rules.index rules.dot rules.arrow rules.arithmetic rules.plus rules.minus rules.shift rules.comparison rules.logical rules.choice rules.call statement.assign statement.compound statement.returned statement.freed statement.printed statement.guarded
+unfolding rules.unary rules.negation rules.dereference rules.address rules.cast rules.size_of rules.index rules.dot rules.arrow rules.arithmetic rules.plus rules.minus rules.shift rules.comparison rules.logical rules.choice rules.call statement.assign statement.compound statement.returned statement.freed statement.printed statement.guarded calls.called
 EachRule = Unit {0}
 
 -- ---- trees
@@ -183,8 +191,14 @@ freed at e = roll-Stmt (Stmt-F.Free at e)
 abbrev pub marked : ℕ → Stmt
 marked at = roll-Stmt (Stmt-F.Mark (mark.Call at))
 
-abbrev pub finalize : ℕ → Stmt
-finalize at = roll-Stmt (Stmt-F.Mpi (mpi.Finalize at))
+abbrev pub datatype : ℕ → Datatype → DatatypeWord
+datatype at t = record { at = at; datatype = t }
+
+abbrev pub buffer : Expr → Expr → DatatypeWord → Buffer
+buffer start count t = record { start = start; count = count; datatype = t }
+
+abbrev pub called : MpiCall → Stmt
+called c = roll-Stmt (Stmt-F.Mpi c)
 
 abbrev pub simple : SimpleStatement → Stmt
 simple x = roll-Stmt (Stmt-F.Simple x)
@@ -209,8 +223,9 @@ fault kind at = record { kind = kind; at = at }
 abbrev pub broken : List Item → ℕ → List Fault
 broken items length = (judged_tree (record { items = items }) length).faults
 
+-- in a text without the word MPI_ANY_SOURCE
 abbrev pub whole : List Item → ℕ → Judged Program
-whole items length = judged_tree (record { items = items }) length
+whole items length = seen_as (checked.program_of (record { items = items }) false) (judged_tree (record { items = items }) length)
 
 abbrev pub accepted : Program → Judged Program
 accepted p = record { faults = []; found = Some p }
@@ -239,12 +254,19 @@ single t = record { element = t; sizes = []; cells = 1 }
 abbrev pub object : CType → List ℕ → ℕ → ObjectType
 object t ns cells = record { element = t; sizes = ns; cells = cells }
 
+-- a program with the struct of MPI_Status and these, and one with a main alone
+abbrev pub program_with : List Struct → List Function → ℕ → Program
+program_with structs functions main = record { structs = first_structs ++ structs; functions = functions; main = main; any_source = false }
+
 abbrev pub program_of : List Struct → List ObjectType → List Form → Program
 program_of structs variables body =
-    record { structs = structs; functions = record { name = codes "main"; result = int; parameters = 0; variables = variables; body = body } ∷ []; main = 0 }
+    program_with structs (record { name = codes "main"; result = int; parameters = 0; variables = variables; body = body } ∷ []) 0
 
 abbrev pub zero : ℕ → Form
 zero k = typed.Actions (action.Zero k ∷ [])
+
+abbrev pub mpi_call : MpiFunction → List Term → Form
+mpi_call f es = typed.Mpi (record { function = f; arguments = es })
 
 -- a main with a char, an int and a long, its first three variables
 abbrev pub three : List Form → Program

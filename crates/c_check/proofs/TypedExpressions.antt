@@ -43,14 +43,14 @@ use Rattle.c_check.proofs.TypedParts.{IsTold, AreTold, none_before, none_behind,
 
 told_name : (at : ℕ) (x : Option Entity) → IsTold (rules.name at x)
 told_name at (Some (Variable v)) = λ e. refl
-told_name at (Some Parameter) = told_refused _
+told_name at (Some (Parameter k)) = told_refused _
 told_name at None = told_refused _
 
 told_constant : (at : ℕ) (c : Constant) → IsTold (rules.constant_word at c)
 told_constant at word.Null = λ e. refl
-told_constant at word.AnySource = told_refused _
-told_constant at word.AnyTag = told_refused _
-told_constant at word.ProcNull = told_refused _
+told_constant at word.AnySource = λ e. refl
+told_constant at word.AnyTag = λ e. refl
+told_constant at word.ProcNull = λ e. refl
 
 told_addressed : (at operand : ℕ) (f : Form) → IsTold (rules.addressed at operand f)
 told_addressed at operand (form.Zero kind) = told_refused _

@@ -10,6 +10,7 @@ use Rattle.c_tree.specs.declared.tree.Expr.{Expr}
 use Rattle.c_tree.specs.declared.tree.ForStart.{ForStart}
 use Rattle.c_tree.specs.declared.tree.ForStart.TheVariants as for_start
 use Rattle.c_tree.specs.declared.tree.InitDeclarator.{InitDeclarator}
+use Rattle.c_tree.specs.declared.tree.MpiCall.{MpiCall}
 use Rattle.c_tree.specs.declared.tree.SimpleStatement.{SimpleStatement}
 use Rattle.c_tree.specs.declared.tree.SimpleStatement.TheVariants as simple_form
 use Rattle.c_tree.specs.declared.tree.Step.{Step}
@@ -22,6 +23,7 @@ use Rattle.c_tree.specs.declared.tree.TypeSpecifier.{TypeSpecifier}
 use Rattle.c_kernel.specs.declared.types.CType.{CType}
 use Rattle.c_kernel.specs.declared.types.Struct.{Struct}
 use Rattle.c_kernel.specs.declared.program.Expr.{Expr as Term}
+use Rattle.c_kernel.specs.declared.program.MpiFunction.{MpiFunction}
 use Rattle.c_kernel.specs.declared.program.Piece.{Piece}
 use Rattle.c_kernel.specs.declared.program.Stmt.{Stmt as Typed}
 use Rattle.c_rules.specs.declared.found.Found.{Found}
@@ -33,6 +35,7 @@ use Rattle.c_rules.specs.Rules.{begin, link}
 use Rattle.c_rules.specs.Scope.{Bytes, Scope, declare, enter}
 use Rattle.c_rules.specs.Types.{type_of, specifier_rules, object_type}
 use Rattle.c_check.specs.Expression.{Called, Allocated, Seen, seen, judged, judged_all, right, invoked, allocation}
+use Rattle.c_check.specs.Mpi as mpi
 use Rattle.c_check.specs.Statement as walk
 use Rattle.c_check.specs.Statement.{Walk, Node, walk_all, walk_as, scoped, walked, statement_node}
 use Rattle.c_check.proofs.TypedParts.{IsTold, map_some, told_by, told_refused, told_after, told_part, told_parts, told_pair, told_more, told_together, told_perhaps}
@@ -121,6 +124,15 @@ module _ (functions : Bytes → Option Signature) (structs : List Struct) where
   told_simple s (simple_form.Postfix a at how) = told_part (judged functions structs s a) (walk.stepped structs how) (told_expression functions structs s a) (told_stepped structs how)
   told_simple s (simple_form.Prefix at how a) = told_part (judged functions structs s a) (walk.stepped structs how) (told_expression functions structs s a) (told_stepped structs how)
 
+  -- ---- calls of MPI
+
+  told_mpi : (s : Scope) (c : MpiCall) (f : Option MpiFunction) → IsTold (walk.mpi_function functions structs s c f)
+  unfolding mpi.called
+  told_mpi s c None = told_refused _
+  told_mpi s c (Some f) =
+      let es = mpi.arguments_of c in
+      told_part (walk.values functions structs s es) (mpi.called (mpi.word_rules s c) f) (told_together (judged_all functions structs s es) (told_expressions functions structs s es)) (λ vs. told_by _ _)
+
   -- ---- declarations
 
   told_initial : (s : Scope) (v : Found) (e : Option Expr) (number : ℕ) → IsTold (walk.initial functions structs s v e number)
@@ -206,7 +218,7 @@ module _ (functions : Bytes → Option Signature) (structs : List Struct) where
     layer (Stmt-F.Print at format es) looping s = told_part (walk.values functions structs s es) (walk.printed format) (told_together (judged_all functions structs s es) (told_expressions functions structs s es)) (told_printed format)
     layer (Stmt-F.Free at e) looping s = told_part (judged functions structs s e) walk.freed (told_expression functions structs s e) told_freed
     layer (Stmt-F.Mark m) looping s = λ e. refl
-    layer (Stmt-F.Mpi c) looping s = told_refused _
+    layer (Stmt-F.Mpi c) looping s = told_mpi s c (mpi.function_of c)
     layer (Stmt-F.Simple x) looping s = told_form _ (walk.simple functions structs s x) (told_simple s x)
 
     pub told_statement : (x : Stmt) → IsToldNode (walked functions structs result x)

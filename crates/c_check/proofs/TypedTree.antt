@@ -1,6 +1,6 @@
 -- A tree that breaks no rule has a typed form.
-use Rattle.std.proofs.Common.{◌≡◌, ℕ, List, [], ◌∷◌, Option, Some, None, true, false, refl}
-use Rattle.std.specs.Prelude.{is_some}
+use Rattle.std.proofs.Common.{◌≡◌, ℕ, Bool, List, [], ◌∷◌, Option, Some, None, true, false, refl}
+use Rattle.std.specs.Prelude.{is_some, option_map}
 use Rattle.c_tree.specs.declared.tree.BlockItem.{BlockItem}
 use Rattle.c_tree.specs.declared.tree.BlockItem.TheVariants as block_item
 use Rattle.c_tree.specs.declared.tree.Heading.{Heading}
@@ -13,11 +13,12 @@ use Rattle.c_kernel.specs.declared.types.Struct.{Struct}
 use Rattle.c_rules.specs.declared.signature.Signature.{Signature}
 use Rattle.c_rules.specs.Rules.{main_name}
 use Rattle.c_rules.specs.Scope.{Bytes, start}
+use Rattle.c_rules.specs.Types.{first_structs}
 use Rattle.c_check.specs.Functions.{is_main, parameters_of, result_of, with_parameters, heading_rules, signatures, number_in, next_number}
-use Rattle.c_check.specs.Program.{body_item, body, item_judged, items_judged, main_in, judged_tree}
+use Rattle.c_check.specs.Program.{body_item, body, item_judged, items_judged, main_in, judged_tree, program_of}
 use Rattle.c_check.specs.Statement.{declaration}
 use Rattle.c_check.specs.Structs.{with_item}
-use Rattle.c_check.proofs.TypedParts.{IsTold, told_by, told_refused, told_after, told_parts, told_as}
+use Rattle.c_check.proofs.TypedParts.{IsTold, map_some, told_by, told_refused, told_after, told_parts, told_pair, told_as}
 use Rattle.c_check.proofs.TypedStatements.{IsToldWalk, told_all, told_each, told_walk_as, told_declaration, told_statement}
 
 module _ (functions : Bytes → Option Signature) (structs : List Struct) where
@@ -46,7 +47,10 @@ told_main : (length : ℕ) (number : Option ℕ) → IsTold (main_in length numb
 told_main length None = told_refused _
 told_main length (Some k) = λ e. refl
 
-pub typed_form : (tree : Tree) (length : ℕ) → (judged_tree tree length).faults ≡ [] → is_some (judged_tree tree length).found ≡ true
-typed_form tree length =
-    let functions = signatures [] 0 tree.items in
-    told_parts (items_judged functions [] 0 tree.items) (main_in length (number_in (functions main_name))) _ (told_items functions [] 0 tree.items) (told_main length (number_in (functions main_name))) (λ fs k e. refl)
+told_tree : (tree : Tree) (length : ℕ) → IsTold (judged_tree tree length)
+told_tree tree length =
+    let functions = signatures first_structs 0 tree.items in
+    told_pair (items_judged functions first_structs 0 tree.items) (main_in length (number_in (functions main_name))) (told_items functions first_structs 0 tree.items) (told_main length (number_in (functions main_name)))
+
+pub typed_form : (tree : Tree) (length : ℕ) (any : Bool) → (judged_tree tree length).faults ≡ [] → is_some (option_map (program_of tree any) (judged_tree tree length).found) ≡ true
+typed_form tree length any e = map_some (program_of tree any) (judged_tree tree length).found (told_tree tree length e)

@@ -18,7 +18,7 @@ use Rattle.c_kernel.specs.declared.types.CType.{CType}
 use Rattle.c_kernel.specs.declared.types.Struct.{Struct}
 use Rattle.c_rules.specs.declared.fault.Fault.{Fault}
 use Rattle.c_rules.specs.declared.signature.Signature.{Signature}
-use Rattle.c_rules.specs.Judged.{breaks}
+use Rattle.c_rules.specs.Judged.{breaks, unless_broken}
 use Rattle.c_rules.specs.Scope.{Bytes, Scope, is_here, declare, hide, start}
 use Rattle.c_rules.specs.Types.{type_of, specifier_rules, place_of, is_void_base, is_struct, is_null, pointer_to, same_type, same_types, is_array_size, one_object}
 use Rattle.c_rules.specs.Rules.{main_name}
@@ -141,11 +141,6 @@ is_unfit structs defined p =
 abbrev pub is_named_here : Scope → Option Name → Bool
 is_named_here s None = false
 is_named_here s (Some n) = is_here s n.bytes
-
--- nothing is said where a part breaks a rule
-abbrev pub unless_broken : List Fault → List Fault → List Fault
-unless_broken [] rules = rules
-unless_broken (f ∷ fs) rules = []
 
 abbrev pub parameter_rules : List Struct → Bool → Scope → Parameter → List Fault
 parameter_rules structs defined s p =

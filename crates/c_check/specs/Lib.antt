@@ -1,4 +1,5 @@
 pub mod Expression
+pub mod Mpi
 pub mod Statement
 pub mod Structs
 pub mod Functions

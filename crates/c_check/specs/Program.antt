@@ -1,5 +1,5 @@
 -- What a program is found to be: accepted with its typed program, or refused for the first broken rule.
-use Rattle.std.specs.Prelude.{◌≡◌, ℕ, Bool, true, false, ◌||◌, ◌&&◌, List, [], ◌∷◌, ◌++◌, map, fold, length, nat_lt, ◌==◌, ◌⊎◌, Option, Some, None, if◌then◌else◌}
+use Rattle.std.specs.Prelude.{◌≡◌, ℕ, Bool, true, false, ◌||◌, ◌&&◌, List, [], ◌∷◌, ◌++◌, map, fold, length, nat_lt, ◌==◌, ◌⊎◌, Option, Some, None, option_map, if◌then◌else◌}
 use Rattle.c_tree.specs.declared.tree.Tree.{Tree}
 use Rattle.c_tree.specs.declared.tree.Item.{Item}
 use Rattle.c_tree.specs.declared.tree.Item.TheVariants as item
@@ -17,9 +17,10 @@ use Rattle.c_kernel.specs.declared.program.Stmt.{Stmt as Typed}
 use Rattle.c_kernel.specs.declared.program.Stmt.TheVariants.{Actions}
 use Rattle.c_rules.specs.declared.fault.Fault.{Fault}
 use Rattle.c_rules.specs.declared.signature.Signature.{Signature}
-use Rattle.c_rules.specs.Judged.{Judged, by, refused, after, of_parts, as_part}
+use Rattle.c_rules.specs.Judged.{Judged, by, refused, after, of_parts, as_part, pair_of}
 use Rattle.c_rules.specs.Scope.{Bytes, Scope, start}
 use Rattle.c_rules.specs.Rules.{main_name}
+use Rattle.c_rules.specs.Types.{first_structs}
 use Rattle.c_check.specs.Statement.{Walk, walk_all, walk_as, walked, declaration}
 use Rattle.c_check.specs.Structs.{with_item, all_structs, struct_rules}
 use Rattle.c_check.specs.Functions.{is_main, parameters_of, result_of, with_parameters, heading_rules, signatures, number_in, next_number}
@@ -66,11 +67,15 @@ abbrev pub main_in : ℕ → Option ℕ → Judged ℕ
 main_in length None = refused kind.NoMain length
 main_in length (Some k) = by [] k
 
-abbrev pub judged_tree : Tree → ℕ → Judged Program
+-- the functions, and the number of main
+abbrev pub judged_tree : Tree → ℕ → Judged (List Function × ℕ)
 judged_tree tree length =
-    let functions = signatures [] 0 tree.items in
-    of_parts (items_judged functions [] 0 tree.items) (main_in length (number_in (functions main_name)))
-    (λ fs k. by [] (record { structs = all_structs [] tree.items; functions = fs; main = k }))
+    let functions = signatures first_structs 0 tree.items in
+    pair_of (items_judged functions first_structs 0 tree.items) (main_in length (number_in (functions main_name)))
+
+-- of a text that has the word MPI_ANY_SOURCE, or not
+abbrev pub program_of : Tree → Bool → List Function × ℕ → Program
+program_of tree any parts = record { structs = all_structs first_structs tree.items; functions = parts.0; main = parts.1; any_source = any }
 
 -- ---- the first fault
 
@@ -127,8 +132,8 @@ abbrev pub IsLeast : List Fault → Fault → Type 0
 IsLeast faults f = Among faults f × NonePrecedes faults f
 
 -- a tree that breaks no rule, with its typed program
-abbrev pub Accepts : Tree → ℕ → Program → Type 0
-Accepts tree length program = ((judged_tree tree length).faults ≡ []) × ((judged_tree tree length).found ≡ Some program)
+abbrev pub Accepts : Tree → ℕ → Bool → Program → Type 0
+Accepts tree length any program = ((judged_tree tree length).faults ≡ []) × (option_map (program_of tree any) (judged_tree tree length).found ≡ Some program)
 
 -- a tree that breaks one
 abbrev pub Refuses : Tree → ℕ → Fault → Type 0

@@ -1,5 +1,5 @@
 -- The rules at each statement and declaration (C99 6.7, 6.8), and what it is found to be.
-use Rattle.std.specs.Prelude.{ℕ, Bool, true, false, not, ◌||◌, ◌&&◌, List, [], ◌∷◌, ◌++◌, map, length, Option, Some, None, is_some, is_none, option_map, if◌then◌else◌}
+use Rattle.std.specs.Prelude.{ℕ, pos, Bool, true, false, not, ◌||◌, ◌&&◌, List, [], ◌∷◌, ◌++◌, map, length, Option, Some, None, is_some, is_none, option_map, if◌then◌else◌}
 use Rattle.c_tree.specs.declared.token.Operator.{Operator}
 use Rattle.c_tree.specs.declared.token.Operator.TheVariants as operator
 use Rattle.c_tree.specs.declared.tree.TypeSpecifier.{TypeSpecifier}
@@ -17,6 +17,7 @@ use Rattle.c_tree.specs.declared.tree.SimpleStatement.{SimpleStatement}
 use Rattle.c_tree.specs.declared.tree.SimpleStatement.TheVariants as simple_form
 use Rattle.c_tree.specs.declared.tree.Step.{Step}
 use Rattle.c_tree.specs.declared.tree.Step.TheVariants as step
+use Rattle.c_tree.specs.declared.tree.MpiCall.{MpiCall}
 use Rattle.c_tree.specs.declared.tree.Stmt.{Stmt}
 use Rattle.c_tree.specs.declared.tree.Stmt.TheFolds.{fold-Stmt}
 use Rattle.c_tree.specs.declared.tree.Stmt.TheOpen.{Stmt-F}
@@ -25,6 +26,7 @@ use Rattle.c_tree.specs.declared.kind.Kind.TheVariants.{NotYet, Redeclared, NotP
 use Rattle.c_kernel.specs.declared.types.CType.{CType}
 use Rattle.c_kernel.specs.declared.types.Struct.{Struct}
 use Rattle.c_kernel.specs.declared.types.IntegerType.TheVariants.{Int}
+use Rattle.c_kernel.specs.declared.program.MpiFunction.{MpiFunction}
 use Rattle.c_kernel.specs.declared.program.Stmt.{Stmt as Typed}
 use Rattle.c_kernel.specs.declared.program.Stmt.TheVariants as typed
 use Rattle.c_kernel.specs.declared.program.Arm.{Arm}
@@ -51,6 +53,7 @@ use Rattle.c_rules.specs.Types.{type_of, specifier_rules, is_void, is_pointer, i
 use Rattle.c_rules.specs.Rules.{kind_of, plain, place, variable, value, value_as, scalar_rules, number_rules, value_rules, clash, constant, begin, closed, link}
 use Rattle.c_check.specs.Expression.{Seen, Allocated, seen, judged, judged_all, right, invoked, allocation}
 use Rattle.c_rules.specs.Format.{pieces, fit}
+use Rattle.c_check.specs.Mpi as mpi
 
 -- ---- what stands at once (6.5.2.4, 6.5.3.1, 6.5.16, 6.8.3)
 
@@ -110,7 +113,7 @@ step_operator step.Increment = operator.Plus
 step_operator step.Decrement = operator.Minus
 
 abbrev pub stepped : List Struct → Step → Found → Judged Action
-stepped structs how a = compound structs (step_operator how) a (constant a.at 1 Int)
+stepped structs how a = compound structs (step_operator how) a (constant a.at (pos 1) Int)
 
 -- a call whose result isn't used
 abbrev pub called : Invocation → Judged Action
@@ -316,6 +319,15 @@ module _ (functions : Bytes → Option Signature) (structs : List Struct) where
         scope = inside.scope;
       }
 
+  -- ---- a call of MPI
+
+  abbrev pub mpi_function : Scope → MpiCall → Option MpiFunction → Judged Typed
+  mpi_function s c None = refused NotYet 0
+  mpi_function s c (Some f) = of_part (values s (mpi.arguments_of c)) (mpi.called (mpi.word_rules s c) f)
+
+  abbrev pub mpi_call : Scope → MpiCall → Judged Typed
+  mpi_call s c = mpi_function s c (mpi.function_of c)
+
   module _ (result : CType) where
     abbrev pub statement_node : Stmt-F Node → Node
     statement_node (stmt.Empty at) looping = staying (by [] (typed.Actions []))
@@ -331,7 +343,7 @@ module _ (functions : Bytes → Option Signature) (structs : List Struct) where
     statement_node (stmt.Mark m) looping = staying (by [] typed.Mark)
     statement_node (stmt.Simple x) looping = λ s. staying (seen_as (λ a. typed.Actions (one a)) (simple s x)) s
     statement_node (stmt.Free at e) looping = λ s. staying (of_part (judged functions structs s e) freed) s
-    statement_node (stmt.Mpi c) looping = staying (refused NotYet 0)
+    statement_node (stmt.Mpi c) looping = λ s. staying (mpi_call s c) s
 
     abbrev pub walked : Stmt → Node
     walked = fold-Stmt Node statement_node

@@ -11,6 +11,7 @@ mod conditional;
 
 use crate::expression::{both, gather};
 use crate::form::{block_of, do_of, for_of, while_of};
+use crate::mpi::mpi_call;
 use crate::single::{
     declaration_statement, free, loop_step, loop_test, loop_word, print, return_statement,
     simple_statement, start,
@@ -18,10 +19,9 @@ use crate::single::{
 use crate::statement::condition;
 use c_kernel::program::{Expr as Term, Stmt as Typed};
 use c_kernel::{CType, Struct};
-use c_rules::fault::{Fault, rule};
+use c_rules::fault::Fault;
 use c_rules::scope::Scope;
 use c_rules::signature::Signature;
-use c_tree::Kind;
 use c_tree::tree::{Block, BlockItem, Expr, ForStart, SimpleStatement, Stmt};
 use conditional::branches;
 use indexmap::IndexMap;
@@ -175,10 +175,7 @@ fn statement(
         Stmt::Mark(_) => Ok(Some(Typed::Mark)),
         Stmt::Simple(x) => simple_statement(alloc, faults, functions, structs, scope, x),
         Stmt::Free { at: _, pointer } => free(alloc, faults, functions, structs, scope, pointer),
-        Stmt::Mpi(_) => {
-            rule(faults, true, Kind::NotYet, 0)?;
-            Ok(None)
-        }
+        Stmt::Mpi(c) => mpi_call(alloc, faults, functions, structs, scope, c),
     }
 }
 

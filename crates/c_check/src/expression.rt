@@ -1,6 +1,6 @@
 //! Expressions.
 
-ghost use Rattle.std.specs.Prelude.{◌≡◌, ◌++◌, IfOk, OnOk, Option, Some, map, option_map};
+ghost use Rattle.std.specs.Prelude.{◌≡◌, [], ◌++◌, IfOk, OnOk, Option, Some, map, option_map};
 ghost use Rattle.std.specs.Option.{option_copied};
 ghost use Rattle.c_rules.specs.Scope.{scope_of, visible};
 ghost use Rattle.c_rules.specs.Table.{called};
@@ -43,8 +43,10 @@ pub fn expression(
 {
     match e {
         Expr::Number(n) => Ok(Some(literal(alloc, n.at, n.value, width(n.long))?)),
-        Expr::Character { at, value } => Ok(Some(constant(alloc, *at, *value, IntegerType::Int)?)),
-        Expr::Constant { at, constant } => constant_word(alloc, faults, *at, *constant),
+        Expr::Character { at, value } => {
+            Ok(Some(constant(alloc, *at, value.cast_signed(), IntegerType::Int)?))
+        }
+        Expr::Constant { at, constant } => Ok(Some(constant_of(alloc, *at, *constant)?)),
         Expr::Name(n) => name(alloc, faults, scope, n),
         Expr::Call { name, arguments } => {
             misplaced(alloc, faults, functions, structs, scope, name, arguments)
@@ -327,21 +329,14 @@ fn width(long: bool) -> IntegerType
     }
 }
 
-fn constant_word(
-    alloc: Global,
-    faults: &mut Vec<Fault>,
-    at: u32,
-    word: Constant,
-) -> Result<Option<Found>, AllocError>
-    ensures found { IfOk result (λ found. found ≡ (rules.constant_word at word).found) }
-    ensures faults { OnOk result (faults.new.items ≡ faults.old.items ++ (rules.constant_word at word).faults) }
+fn constant_of(alloc: Global, at: u32, word: Constant) -> Result<Found, AllocError>
+    ensures found { IfOk result (λ found. Some found ≡ (rules.constant_word at word).found) }
+    ensures faults { (rules.constant_word at word).faults ≡ [] }
 {
     match word {
-        Constant::Null => Ok(Some(null(alloc, at)?)),
-        Constant::AnySource | Constant::AnyTag | Constant::ProcNull => {
-            rule(faults, true, Kind::NotYet, 0)?;
-            Ok(None)
-        }
+        Constant::Null => null(alloc, at),
+        Constant::AnySource | Constant::AnyTag => constant(alloc, at, -1, IntegerType::Int),
+        Constant::ProcNull => constant(alloc, at, -2, IntegerType::Int),
     }
 }
 
@@ -359,7 +354,7 @@ fn name(
             let found = Boxed::new(alloc, variable(alloc, v.number))?;
             Ok(Some(place(name.at, v.kind.copy(alloc)?, found)))
         }
-        Some(Entity::Parameter) | None => {
+        Some(Entity::Parameter(_)) | None => {
             rule(faults, true, Kind::UnknownName, name.at)?;
             Ok(None)
         }

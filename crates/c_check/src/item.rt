@@ -4,6 +4,7 @@ ghost use Rattle.std.specs.Prelude.{◌≡◌, ◌++◌, true, false, [], IfOk, 
 ghost use Rattle.c_rules.specs.Judged as nodes;
 ghost use Rattle.c_rules.specs.Scope.{scope_of, start};
 ghost use Rattle.c_rules.specs.Table.{called};
+ghost use Rattle.c_rules.specs.Types as types;
 ghost use Rattle.c_check.specs.Functions as headers;
 ghost use Rattle.c_check.specs.Program as program;
 ghost use Rattle.c_check.specs.Structs.{all_structs, struct_rules};
@@ -18,6 +19,7 @@ use c_kernel::program::Function;
 use c_rules::fault::Fault;
 use c_rules::scope::Scope;
 use c_rules::signature::Signature;
+use c_rules::types::first_structs;
 use c_tree::tree::{Block, Heading, Item, MemberDeclaration, Name, Stmt};
 use indexmap::IndexMap;
 use sqlite_items::Items;
@@ -37,11 +39,11 @@ pub fn items(
     functions: &IndexMap<Vec<u8>, Signature>,
     items: &[Item],
 ) -> Result<Defined, AllocError>
-    ensures structs { IfOk result (λ defined. defined.structs ≡ all_structs [] items.now) }
-    ensures functions { IfOk result (λ defined. defined.functions ≡ (program.items_judged (called functions.now.entries) [] 0 items.now).found) }
-    ensures faults { OnOk result (faults.new.items ≡ faults.old.items ++ (program.items_judged (called functions.now.entries) [] 0 items.now).faults) }
+    ensures structs { IfOk result (λ defined. defined.structs ≡ all_structs types.first_structs items.now) }
+    ensures functions { IfOk result (λ defined. defined.functions ≡ (program.items_judged (called functions.now.entries) types.first_structs 0 items.now).found) }
+    ensures faults { OnOk result (faults.new.items ≡ faults.old.items ++ (program.items_judged (called functions.now.entries) types.first_structs 0 items.now).faults) }
 {
-    let mut structs = Items::new(alloc);
+    let mut structs = first_structs(alloc)?;
     let mut found = Some(Items::new(alloc));
     let mut number = 0;
     for x in items {

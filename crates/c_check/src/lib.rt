@@ -8,6 +8,7 @@ mod fault;
 mod form;
 mod heading;
 mod item;
+mod mpi;
 mod single;
 mod statement;
 mod structs;
@@ -20,7 +21,7 @@ ghost use Rattle.c_rules.specs.Table as tables;
 ghost use Rattle.c_rules.specs.Rules.{main_name};
 ghost use Rattle.c_check.specs.Check.{Verdict, Judges, said};
 ghost use Rattle.c_check.specs.Functions.{number_in};
-ghost use Rattle.c_check.specs.Program.{judged_tree, main_in};
+ghost use Rattle.c_check.specs.Program.{judged_tree, main_in, program_of};
 
 use c_kernel::program::Program;
 use c_rules::fault::{Fault, rule};
@@ -35,14 +36,19 @@ use item::{Defined, items};
 use std::alloc::{AllocError, Global};
 use table::table;
 
-/// The typed program of the tree of a text of so many bytes, or its first broken rule.
-pub fn check(alloc: Global, tree: &Tree, length: u32) -> Result<Program, CheckFault>
+/// The typed program of the tree of a text of so many bytes, or its first broken rule. `any_source` says whether the text has the word `MPI_ANY_SOURCE`.
+pub fn check(
+    alloc: Global,
+    tree: &Tree,
+    length: u32,
+    any_source: bool,
+) -> Result<Program, CheckFault>
     // The answer is right, and no other would be.
-    ensures right { IfSome (said result) (Judges tree.now length) }
-    ensures exact { (v : Verdict) → Judges tree.now length v → IfSome (said result) (λ w. w ≡ v) }
+    ensures right { IfSome (said result) (Judges tree.now length any_source) }
+    ensures exact { (v : Verdict) → Judges tree.now length any_source v → IfSome (said result) (λ w. w ≡ v) }
 {
     let mut faults = Vec::new(alloc);
-    let found = judged(alloc, &mut faults, tree, length)?;
+    let found = judged(alloc, &mut faults, tree, length, any_source)?;
     match first(&faults) {
         Some(fault) => Err(CheckFault::Broken {
             kind: fault.kind,
@@ -61,14 +67,15 @@ fn judged(
     faults: &mut Vec<Fault>,
     tree: &Tree,
     length: u32,
+    any_source: bool,
 ) -> Result<Option<Program>, AllocError>
-    ensures found { IfOk result (λ found. found ≡ (judged_tree tree.now length).found) }
+    ensures found { IfOk result (λ found. found ≡ option_map (program_of tree.now any_source) (judged_tree tree.now length).found) }
     ensures faults { OnOk result (faults.new.items ≡ faults.old.items ++ (judged_tree tree.now length).faults) }
 {
     let functions = table(alloc, tree.items.as_slice())?;
     let defined = items(alloc, faults, &functions, tree.items.as_slice())?;
     let main = main_of(faults, &functions, length)?;
-    Ok(whole(defined, main))
+    Ok(whole(defined, main, any_source))
 }
 
 // The number of the function that a program starts in.
@@ -99,8 +106,8 @@ fn number(f: Option<&Signature>) -> Option<usize>
 }
 
 // What is defined and the function that it starts in make a program.
-fn whole(defined: Defined, main: Option<usize>) -> Option<Program>
-    ensures { result ≡ option_map (λ p. record { structs = defined.structs; functions = p.0; main = p.1 }) (nodes.both defined.functions main) }
+fn whole(defined: Defined, main: Option<usize>, any_source: bool) -> Option<Program>
+    ensures { result ≡ option_map (λ p. record { structs = defined.structs; functions = p.0; main = p.1; any_source = any_source }) (nodes.both defined.functions main) }
 {
     let Defined { structs, functions } = defined;
     match both(functions, main) {
@@ -109,6 +116,7 @@ fn whole(defined: Defined, main: Option<usize>) -> Option<Program>
             structs,
             functions,
             main,
+            any_source,
         }),
     }
 }

@@ -4,23 +4,24 @@ ghost use Rattle.std.specs.Prelude.{◌≡◌, ◌<◌, ◌^◌, if◌then◌els
 ghost use Rattle.std.specs.Str.{bytes_eq};
 ghost use Rattle.c_rules.specs.Scope.{Bytes};
 ghost use Rattle.c_rules.specs.Table.{called};
+ghost use Rattle.c_rules.specs.Types as types;
 ghost use Rattle.c_check.specs.Functions as functions;
 
 use crate::heading::{result_of, types_of};
 use crate::structs::add_struct;
 use c_kernel::Struct;
 use c_rules::signature::Signature;
+use c_rules::types::first_structs;
 use c_tree::tree::{Heading, Item};
 use indexmap::IndexMap;
-use sqlite_items::Items;
 use std::alloc::{AllocError, Global};
 
 /// The functions of a program's items.
 pub fn table(alloc: Global, items: &[Item]) -> Result<IndexMap<Vec<u8>, Signature>, AllocError>
-    ensures { IfOk result (λ table. (name : Bytes) → called table.entries name ≡ functions.signatures [] 0 items.now name) }
+    ensures { IfOk result (λ table. (name : Bytes) → called table.entries name ≡ functions.signatures types.first_structs 0 items.now name) }
 {
     let mut table = IndexMap::new(alloc);
-    let mut structs = Items::new(alloc);
+    let mut structs = first_structs(alloc)?;
     let mut number = 0;
     for item in items {
         add_item(alloc, &mut table, structs.as_slice(), number, item)?;

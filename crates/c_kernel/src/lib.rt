@@ -4,4 +4,6 @@
 pub mod program;
 mod types;
 
-pub use types::{Base, CType, Extent, IntegerType, Member, ObjectType, Struct, extent_of};
+pub use types::{
+    Base, CType, Extent, IntegerType, Member, ObjectType, Struct, element_type, extent_of,
+};

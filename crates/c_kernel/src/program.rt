@@ -5,16 +5,19 @@ mod copy;
 mod tests;
 
 use crate::types::{CType, Extent, IntegerType, ObjectType, Struct};
+use mpi_words::Datatype;
 use sqlite_items::{Boxed, Items};
 
 /// A program. It starts in the function with the number `main`.
 #[derive(Debug, Drop)]
 pub struct Program {
-    /// In the text's order. A type names a struct by its place here.
+    /// `MPI_Status` and those of the text, in its order. A type names a struct by its place here.
     pub structs: Items<Struct>,
     /// In the text's order. A call names a function by its place here.
     pub functions: Items<Function>,
     pub main: usize,
+    /// Whether a source of -1 is `MPI_ANY_SOURCE` (MPI 3.1 3.2.4), or no rank at all.
+    pub any_source: bool,
 }
 
 /// A function (C99 6.9.1).
@@ -65,8 +68,35 @@ pub enum Stmt {
     },
     /// `free`.
     Free(Expr),
+    Mpi(MpiCall),
     /// A place where a checkpoint may be taken.
     Mark,
+}
+
+/// A call of MPI, with those of its arguments that have values, in the text's order. Counts, ranks and tags are ints.
+#[derive(Debug, Drop)]
+pub struct MpiCall {
+    pub function: MpiFunction,
+    pub arguments: Items<Expr>,
+}
+
+/// A function of MPI with the words among its arguments, but for `MPI_COMM_WORLD` and `MPI_STATUS_IGNORE`. In brackets stands what the other arguments are.
+#[derive(Clone, Copy, PartialEq, Eq, Debug)]
+pub enum MpiFunction {
+    /// `MPI_Init` `[]`.
+    Init,
+    /// `MPI_Finalize` `[]`.
+    Finalize,
+    /// `MPI_Comm_rank` `[result]`.
+    CommRank,
+    /// `MPI_Comm_size` `[result]`.
+    CommSize,
+    /// `MPI_Send` `[buffer, count, destination, tag]`.
+    Send(Datatype),
+    /// `MPI_Recv` `[buffer, count, source, tag]`, and the status if it isn't ignored.
+    Recv(Datatype),
+    /// `MPI_Get_count` `[status, result]`.
+    GetCount(Datatype),
 }
 
 /// A branch that is taken where its test isn't 0 and no earlier one's is.
@@ -160,7 +190,7 @@ pub enum Selection<E> {
 #[derive(Debug, Drop)]
 pub enum Expr {
     Number {
-        value: u64,
+        value: i64,
         kind: IntegerType,
     },
     /// `NULL`, or the literal 0 as a pointer.

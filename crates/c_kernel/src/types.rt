@@ -4,7 +4,9 @@ mod tests;
 
 ghost use Rattle.std.specs.Prelude.{◌≡◌};
 ghost use Rattle.c_kernel.specs.Extent as extents;
+ghost use Rattle.c_kernel.specs.Elements as elements;
 
+use mpi_words::Datatype;
 use sqlite_items::Items;
 
 /// A type that is no array (C99 6.2.5): of what a function gives, a value, or an array's innermost elements. It is a pointer behind so many stars to the base, or without stars the base itself.
@@ -20,7 +22,7 @@ pub enum Base {
     Integer(IntegerType),
     /// The result of a function that gives none. `NULL` is a pointer to it, and no other value is.
     Void,
-    /// The struct with this number, in the text's order.
+    /// The struct with this number in the program.
     Struct(usize),
 }
 
@@ -97,5 +99,16 @@ fn struct_extent(structs: &[Struct], number: usize) -> Extent
     match structs.get(number) {
         None => Extent { cells: 0, size: 0 },
         Some(found) => found.extent,
+    }
+}
+
+/// The type of a message's elements (MPI 3.1 3.2.2).
+pub fn element_type(kind: Datatype) -> IntegerType
+    ensures { result ≡ elements.element_type kind }
+{
+    match kind {
+        Datatype::Char => IntegerType::Char,
+        Datatype::Int => IntegerType::Int,
+        Datatype::Long => IntegerType::Long,
     }
 }

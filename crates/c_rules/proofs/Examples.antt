@@ -1,8 +1,12 @@
 -- Types and rules, tried on small cases.
-use Rattle.std.proofs.Common.{◌≡◌, refl, ℕ, List, [], ◌∷◌, Some, None, true, false, codes}
+use Rattle.std.proofs.Common.{◌≡◌, refl, ℕ, pos, negsuc, List, [], ◌∷◌, Some, None, true, false, codes}
+use Rattle.c_tree.specs.declared.tree.TypeSpecifier.TheVariants as specifier
+use Rattle.c_tree.specs.declared.tree.PlainType.TheVariants as plain_type
+use Rattle.c_tree.specs.declared.tree.Constant.TheVariants as word
 use Rattle.c_tree.specs.declared.tree.MemberName.{MemberName}
 use Rattle.c_tree.specs.declared.tree.MemberName.TheVariants as member_name
-use Rattle.c_tree.specs.declared.kind.Kind.TheVariants.{UnknownName, NotStruct, NotPlace, NotPointer, NotInteger, TypeMismatch}
+use Rattle.c_tree.specs.declared.kind.Kind.{Kind}
+use Rattle.c_tree.specs.declared.kind.Kind.TheVariants.{UnknownName, NotScalar, NotStruct, NotPlace, NotPointer, NotInteger, TypeMismatch, Datatype}
 use Rattle.c_kernel.specs.declared.types.CType.{CType}
 use Rattle.c_kernel.specs.declared.types.Base.TheVariants.{Void, Struct}
 use Rattle.c_kernel.specs.declared.types.IntegerType.TheVariants.{Char, Int, Long}
@@ -17,11 +21,16 @@ use Rattle.c_kernel.specs.declared.program.Root.TheVariants as root
 use Rattle.c_kernel.specs.declared.program.Selection.TheVariants as selection
 use Rattle.c_kernel.specs.declared.program.BinaryOperator.TheVariants as binary
 use Rattle.c_kernel.specs.declared.program.Way.TheVariants.{Forward}
+use Rattle.c_rules.specs.declared.fault.Fault.{Fault}
 use Rattle.c_rules.specs.declared.found.Found.{Found}
+use Rattle.c_rules.specs.declared.scope.Entity.TheVariants.{Parameter}
+use Rattle.c_rules.specs.declared.rules.roles.Role.TheVariants as role
 use Rattle.c_rules.specs.Judged.{by, refused}
-use Rattle.c_rules.specs.Types.{room, object_type, element, value_type, number_of, known_number, numbered, integer, null_type, pointer_to, is_incomplete}
+use Rattle.c_rules.specs.Scope.{start, hide, visible}
+use Rattle.c_rules.specs.Types.{room, object_type, element, value_type, number_of, known_number, numbered, integer, null_type, pointer_to, is_incomplete, type_of, status_type, first_structs}
 use Rattle.c_rules.specs.Rules as rules
-use Rattle.c_rules.specs.Rules.{clash, choice_type, literal, plain, place, variable, value_at, index, dot, arrow, address, plus, minus, begin}
+use Rattle.c_rules.specs.Rules.{clash, choice_type, literal, character, constant_word, plain, place, variable, value_at, index, dot, arrow, address, plus, minus, begin}
+use Rattle.c_rules.specs.Roles.{role_rules, role_value, roles_rules}
 
 -- ---- struct Pair { int first; long rest[2]; };
 
@@ -123,7 +132,7 @@ itself : value_type (one pair 3) ≡ pair
 itself = refl
 
 -- an array's value is the address of its first element
-first_address : value_at row (variable 4) ≡ typed.Address (record { root = root.Variable 4; steps = selection.Element (typed.Number 0 Int) 3 ∷ [] })
+first_address : value_at row (variable 4) ≡ typed.Address (record { root = root.Variable 4; steps = selection.Element (typed.Number (pos 0) Int) 3 ∷ [] })
 first_address = refl
 
 load : value_at (one (pointer_to pair) 1) (variable 4) ≡ typed.Load (variable 4) scalar.Pointer
@@ -206,7 +215,7 @@ abbrev p_value : Expr
 p_value = typed.Load (variable 1) scalar.Pointer
 
 abbrev row_value : Expr
-row_value = typed.Address (record { root = root.Variable 2; steps = selection.Element (typed.Number 0 Int) 3 ∷ [] })
+row_value = typed.Address (record { root = root.Variable 2; steps = selection.Element (typed.Number (pos 0) Int) 3 ∷ [] })
 
 abbrev member_named : ℕ → List ℕ → MemberName
 member_named at name = member_name.Name (record { at = at; bytes = name })
@@ -252,11 +261,11 @@ unfolding arrow
 arrow_null = refl
 
 -- row[1], p[1]
-index_array : index structs row_found (rules.constant 14 1 Int) ≡ by [] (place 10 (one pair 3) (record { root = root.Variable 2; steps = selection.Element (typed.Number 1 Int) 3 ∷ [] }))
+index_array : index structs row_found (rules.constant 14 (pos 1) Int) ≡ by [] (place 10 (one pair 3) (record { root = root.Variable 2; steps = selection.Element (typed.Number (pos 1) Int) 3 ∷ [] }))
 unfolding index
 index_array = refl
 
-index_pointer : index structs p_found (rules.constant 12 1 Int) ≡ by [] (place 10 (one pair 3) (record { root = root.Target p_value; steps = selection.Element (typed.Number 1 Int) 3 ∷ [] }))
+index_pointer : index structs p_found (rules.constant 12 (pos 1) Int) ≡ by [] (place 10 (one pair 3) (record { root = root.Target p_value; steps = selection.Element (typed.Number (pos 1) Int) 3 ∷ [] }))
 unfolding index
 index_pointer = refl
 
@@ -270,11 +279,11 @@ unfolding address
 address_struct = refl
 
 -- p + 1, NULL + 1, p - row, 0 - p, 5 - p
-plus_number : (plus structs (begin p_found) (rules.constant 14 1 Int)).found ≡ Some (rules.extended (begin p_found) (pointer_to pair) (record { conversion = None; operator = binary.Advance Forward 3; operand = typed.Number 1 Int }))
+plus_number : (plus structs (begin p_found) (rules.constant 14 (pos 1) Int)).found ≡ Some (rules.extended (begin p_found) (pointer_to pair) (record { conversion = None; operator = binary.Advance Forward 3; operand = typed.Number (pos 1) Int }))
 unfolding plus
 plus_number = refl
 
-plus_null : (plus structs (begin (plain 10 null_type typed.Null)) (rules.constant 17 1 Int)).faults ≡ record { kind = NotInteger; at = 10 } ∷ []
+plus_null : (plus structs (begin (plain 10 null_type typed.Null)) (rules.constant 17 (pos 1) Int)).faults ≡ record { kind = NotInteger; at = 10 } ∷ []
 unfolding plus
 plus_null = refl
 
@@ -289,3 +298,122 @@ zero_minus = refl
 number_minus : (minus structs (begin (literal 8 5 Int)) p_found).faults ≡ record { kind = TypeMismatch; at = 8 } ∷ []
 unfolding minus
 number_minus = refl
+
+-- ---- constants
+
+literal_five : literal 8 5 Long ≡ plain 8 (integer Long) (typed.Number (pos 5) Long)
+literal_five = refl
+
+-- a character of -1
+character_minus : character 8 18446744073709551615 ≡ by [] (plain 8 (integer Int) (typed.Number (negsuc 0) Int))
+character_minus = refl
+
+any_source : constant_word 8 word.AnySource ≡ by [] (plain 8 (integer Int) (typed.Number (negsuc 0) Int))
+any_source = refl
+
+any_tag : constant_word 8 word.AnyTag ≡ by [] (plain 8 (integer Int) (typed.Number (negsuc 0) Int))
+any_tag = refl
+
+no_process : constant_word 8 word.ProcNull ≡ by [] (plain 8 (integer Int) (typed.Number (negsuc 1) Int))
+no_process = refl
+
+-- ---- the parameters of main
+
+first_parameter : visible (hide start (codes "argc")) (codes "argc") ≡ Some (Parameter 0)
+first_parameter = refl
+
+second_parameter : visible (hide (hide start (codes "argc")) (codes "argv")) (codes "argv") ≡ Some (Parameter 1)
+second_parameter = refl
+
+-- ---- MPI_Status s (variable 5)
+
+abbrev status : ObjectType
+status = one status_type 4
+
+status_word : type_of first_structs None (specifier.Plain 5 plain_type.Status) 0 ≡ status_type
+status_word = refl
+
+status_pointer : type_of first_structs None (specifier.Plain 5 plain_type.Status) 1 ≡ pointer_to status_type
+status_pointer = refl
+
+status_room : object_type first_structs status_type [] ≡ status
+status_room = refl
+
+abbrev status_found : Found
+status_found = place 10 status (variable 5)
+
+-- s.MPI_SOURCE, s.MPI_TAG, s.count
+status_source : dot first_structs status_found (member_name.Source 12) ≡ by [] (place 10 (one (integer Int) 1) (rules.step_to (variable 5) (selection.Member 0 0 0)))
+unfolding dot
+status_source = refl
+
+status_tag : dot first_structs status_found (member_name.Tag 12) ≡ by [] (place 10 (one (integer Int) 1) (rules.step_to (variable 5) (selection.Member 0 1 1)))
+unfolding dot
+status_tag = refl
+
+status_count : dot first_structs status_found (member_named 12 (codes "count")) ≡ refused UnknownName 12
+unfolding dot
+status_count = refl
+
+-- ---- arguments of MPI's calls: int *i (variable 3), &s, NULL
+
+abbrev i_found : Found
+i_found = place 10 (one int_pointer 1) (variable 3)
+
+abbrev status_address : Found
+status_address = plain 10 (pointer_to status_type) (typed.Address (variable 5))
+
+abbrev null_found : Found
+null_found = plain 10 null_type typed.Null
+
+abbrev at_ten : Kind → Fault
+at_ten kind = record { kind = kind; at = 10 }
+
+long_tag : role_rules role.Number (place 10 (one (integer Long) 1) (variable 0)) ≡ []
+long_tag = refl
+
+long_as_int : role_value role.Number (place 10 (one (integer Long) 1) (variable 0)) ≡ typed.Convert Int (typed.Load (variable 0) (scalar.Number Long))
+long_as_int = refl
+
+pointer_tag : role_rules role.Number i_found ≡ at_ten NotInteger ∷ []
+pointer_tag = refl
+
+int_buffer : role_rules (role.Buffer Int) i_found ≡ []
+int_buffer = refl
+
+array_buffer : role_rules (role.Buffer Int) (place 10 (record { element = integer Int; sizes = 8 ∷ []; cells = 8 }) (variable 0)) ≡ []
+array_buffer = refl
+
+null_buffer : role_rules (role.Buffer Int) null_found ≡ []
+null_buffer = refl
+
+other_buffer : role_rules (role.Buffer Long) i_found ≡ at_ten Datatype ∷ []
+other_buffer = refl
+
+zero_buffer : role_rules (role.Buffer Int) (literal 10 0 Int) ≡ at_ten NotPointer ∷ at_ten Datatype ∷ []
+zero_buffer = refl
+
+struct_buffer : role_rules (role.Buffer Int) pair_found ≡ at_ten NotScalar ∷ at_ten NotPointer ∷ at_ten Datatype ∷ []
+struct_buffer = refl
+
+a_status : role_rules (role.Pointer status_type) status_address ≡ []
+a_status = refl
+
+zero_status : role_rules (role.Pointer status_type) (literal 10 0 Int) ≡ at_ten Datatype ∷ []
+zero_status = refl
+
+int_status : role_rules (role.Pointer status_type) (literal 10 5 Int) ≡ at_ten Datatype ∷ []
+int_status = refl
+
+struct_status : role_rules (role.Pointer status_type) status_found ≡ at_ten NotScalar ∷ at_ten Datatype ∷ []
+struct_status = refl
+
+other_status : role_rules (role.Pointer status_type) i_found ≡ at_ten Datatype ∷ []
+other_status = refl
+
+int_result : role_rules (role.Pointer (integer Int)) i_found ≡ []
+int_result = refl
+
+-- the status may be left out
+two_arguments : roles_rules (role.Number ∷ role.Buffer Int ∷ role.Pointer status_type ∷ []) (i_found ∷ i_found ∷ []) ≡ at_ten NotInteger ∷ []
+two_arguments = refl

@@ -1,5 +1,6 @@
 -- Maps by the bytes of their names.
-use Rattle.std.proofs.Common.{◌≡◌, ℕ, Bool, true, false, List, [], ◌∷◌, refl, ap, cond, if◌then◌else◌}
+use Rattle.std.proofs.Common.{◌≡◌, ℕ, Bool, true, false, List, [], ◌∷◌, length, refl, ap, cond, if◌then◌else◌}
+use Rattle.std.proofs.lemmas.List.{length-map}
 use Rattle.std.specs.declared.alloc.Global.{Global}
 use Rattle.std.specs.Map.{lookup}
 use Rattle.std.specs.Str.{bytes_eq}
@@ -23,3 +24,6 @@ entries_choice false k v e es fs gs p = ap (λ xs. (e.0.items, e.1) ∷ xs) p
 pub insert_entries : {X : Type 0} (es : List (Vec ℕ Global × X)) (k : Vec ℕ Global) (v : X) → entries (insert_entry (λ x y. bytes_eq x.items y.items) es k v) ≡ insert_entry bytes_eq (entries es) k.items v
 insert_entries [] k v = refl
 insert_entries (e ∷ es) k v = entries_choice (bytes_eq k.items e.0.items) e.0 v e es _ _ (insert_entries es k v)
+
+pub length_entries : {X : Type 0} (es : List (Vec ℕ Global × X)) → length (entries es) ≡ length es
+length_entries es = length-map es _

@@ -23,6 +23,11 @@ by faults x = record { faults = faults; found = sound faults x }
 abbrev pub silent : {A : Type 0} → Judged A
 silent = record { faults = []; found = None }
 
+-- nothing is said where a part breaks a rule
+abbrev pub unless_broken : List Fault → List Fault → List Fault
+unless_broken [] rules = rules
+unless_broken (f ∷ fs) rules = []
+
 -- a node that breaks a rule
 abbrev pub refused : {A : Type 0} → Kind → ℕ → Judged A
 refused kind at = record { faults = breaks true kind at; found = None }

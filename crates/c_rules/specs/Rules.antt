@@ -1,5 +1,6 @@
 -- The rules at each node of an expression (C99 6.5), and what the node is. A part is what it was found to be.
-use Rattle.std.specs.Prelude.{ℕ, Bool, true, false, not, ◌&&◌, ◌||◌, List, [], ◌∷◌, ◌++◌, length, nat_eq, ◌==◌, Option, Some, None, is_none, unwrap_or, if◌then◌else◌, slice_get}
+use Rattle.std.specs.Prelude.{ℕ, ℤ, pos, negsuc, Bool, true, false, not, ◌&&◌, ◌||◌, List, [], ◌∷◌, ◌++◌, length, nat_eq, ◌==◌, Option, Some, None, is_none, unwrap_or, if◌then◌else◌, slice_get}
+use Rattle.std.specs.Int.{cast_signed, w64}
 use Rattle.c_tree.specs.declared.tree.Number.{Number}
 use Rattle.c_tree.specs.declared.tree.Constant.{Constant}
 use Rattle.c_tree.specs.declared.tree.Constant.TheVariants as word
@@ -77,7 +78,7 @@ abbrev pub is_zero : Found → Bool
 is_zero a = is_zero_form a.form
 
 abbrev pub zero_number : Expr
-zero_number = typed.Number 0 Int
+zero_number = typed.Number (pos 0) Int
 
 -- what is selected at a place
 abbrev pub step_to : Place Expr → Selection Expr → Place Expr
@@ -92,7 +93,7 @@ abbrev pub value_at : ObjectType → Place Expr → Expr
 value_at kind p = if is_array kind then typed.Address (element_place kind p zero_number) else typed.Load p (scalar_of kind.element)
 
 abbrev pub value_in_form : Form → Expr
-value_in_form (form.Zero kind) = typed.Number 0 kind
+value_in_form (form.Zero kind) = typed.Number (pos 0) kind
 value_in_form (form.Value kind e) = e
 value_in_form (form.Place kind p) = value_at kind p
 
@@ -152,31 +153,31 @@ met t u = if is_target t then t else if is_pointer u then u else t
 abbrev pub width : Bool → IntegerType
 width long = if long then Long else Int
 
-abbrev pub constant : ℕ → ℕ → IntegerType → Found
+abbrev pub constant : ℕ → ℤ → IntegerType → Found
 constant at n kind = plain at (integer kind) (typed.Number n kind)
 
 abbrev pub literal : ℕ → ℕ → IntegerType → Found
-literal at n kind = if nat_eq n 0 then record { at = at; form = form.Zero kind } else constant at n kind
+literal at n kind = if nat_eq n 0 then record { at = at; form = form.Zero kind } else constant at (cast_signed w64 n) kind
 
 abbrev pub number : Number → Judged Found
 number n = by [] (literal n.at n.value (width n.long))
 
 abbrev pub character : ℕ → ℕ → Judged Found
-character at n = by [] (constant at n Int)
+character at n = by [] (constant at (cast_signed w64 n) Int)
 
--- the constants of MPI aren't built yet
+-- NULL, and the constants of MPI, which are ints
 abbrev pub constant_word : ℕ → Constant → Judged Found
 constant_word at word.Null = by [] (plain at null_type typed.Null)
-constant_word at word.AnySource = refused NotYet 0
-constant_word at word.AnyTag = refused NotYet 0
-constant_word at word.ProcNull = refused NotYet 0
+constant_word at word.AnySource = by [] (constant at (negsuc 0) Int)
+constant_word at word.AnyTag = by [] (constant at (negsuc 0) Int)
+constant_word at word.ProcNull = by [] (constant at (negsuc 1) Int)
 
 abbrev pub variable : ℕ → Place Expr
 variable k = record { root = root.Variable k; steps = [] }
 
 abbrev pub name : ℕ → Option Entity → Judged Found
 name at (Some (Variable v)) = by [] (place at v.kind (variable v.number))
-name at (Some Parameter) = refused UnknownName at
+name at (Some (Parameter k)) = refused UnknownName at
 name at None = refused UnknownName at
 
 -- in parentheses
@@ -297,7 +298,7 @@ unfoldable pub cast : ℕ → CType → Found → Judged Found
 cast at kind a = by (cast_rules at kind a) (plain at kind (value_in (integer_of kind) a))
 
 unfoldable pub size_of : List Structure → ℕ → CType → Judged Found
-size_of structs at kind = by (breaks (is_incomplete structs kind) IncompleteType at) (constant at (extent structs kind).size Long)
+size_of structs at kind = by (breaks (is_incomplete structs kind) IncompleteType at) (constant at (pos (extent structs kind).size) Long)
 
 -- ---- two operands, grouped from the left (6.5.5 to 6.5.14)
 

@@ -49,9 +49,9 @@ declare s name kind = record {
   variables = s.variables ++ kind ∷ [];
 }
 
--- with one name more that is no variable
+-- with one name more, that of a parameter of main
 abbrev pub hide : Scope → Bytes → Scope
-hide s name = record s { here = insert_entry bytes_eq s.here name Parameter }
+hide s name = record s { here = insert_entry bytes_eq s.here name (Parameter (length s.here)) }
 
 -- into a block, and out of it
 abbrev pub enter : Scope → Scope

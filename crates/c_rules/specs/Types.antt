@@ -7,7 +7,7 @@ use Rattle.c_tree.specs.declared.tree.PlainType.{PlainType}
 use Rattle.c_tree.specs.declared.tree.PlainType.TheVariants as plain
 use Rattle.c_tree.specs.declared.tree.MemberName.{MemberName}
 use Rattle.c_tree.specs.declared.tree.MemberName.TheVariants as member_name
-use Rattle.c_tree.specs.declared.kind.Kind.TheVariants.{NotYet, UnknownName}
+use Rattle.c_tree.specs.declared.kind.Kind.TheVariants.{UnknownName}
 use Rattle.c_kernel.specs.declared.types.CType.{CType}
 use Rattle.c_kernel.specs.declared.types.Base.{Base}
 use Rattle.c_kernel.specs.declared.types.Base.TheVariants.{Integer, Void, Struct}
@@ -46,21 +46,12 @@ known_number structs own name = or_own (number_of structs name) (own_number (len
 
 -- ---- types as they are written: a specifier and stars
 
--- a type that isn't built yet
-abbrev pub is_unbuilt : TypeSpecifier → Bool
-is_unbuilt (specifier.Plain at plain.Status) = true
-is_unbuilt (specifier.Plain at plain.Char) = false
-is_unbuilt (specifier.Plain at plain.Int) = false
-is_unbuilt (specifier.Plain at plain.Long) = false
-is_unbuilt (specifier.Plain at plain.Void) = false
-is_unbuilt (specifier.Struct at name) = false
-
 abbrev pub base_of_word : PlainType → Base
 base_of_word plain.Char = Integer Char
 base_of_word plain.Int = Integer Int
 base_of_word plain.Long = Integer Long
 base_of_word plain.Void = Void
-base_of_word plain.Status = Void
+base_of_word plain.Status = Struct 0
 
 abbrev pub struct_base : Option ℕ → Base
 struct_base None = Void
@@ -74,12 +65,9 @@ base_of structs own (specifier.Struct at name) = struct_base (known_number struc
 abbrev pub type_of : List Structure → Option Bytes → TypeSpecifier → ℕ → CType
 type_of structs own t stars = record { base = base_of structs own t; stars = stars }
 
-abbrev pub name_rules : List Structure → Option Bytes → TypeSpecifier → List Fault
-name_rules structs own (specifier.Plain at word) = []
-name_rules structs own (specifier.Struct at name) = breaks (is_none (known_number structs own name.bytes)) UnknownName name.at
-
 abbrev pub specifier_rules : List Structure → Option Bytes → TypeSpecifier → List Fault
-specifier_rules structs own t = if is_unbuilt t then breaks true NotYet 0 else name_rules structs own t
+specifier_rules structs own (specifier.Plain at word) = []
+specifier_rules structs own (specifier.Struct at name) = breaks (is_none (known_number structs own name.bytes)) UnknownName name.at
 
 -- the specifier's first byte
 abbrev pub place_of : TypeSpecifier → ℕ
@@ -248,6 +236,29 @@ abbrev pub member_at : MemberName → ℕ
 member_at (member_name.Name n) = n.at
 member_at (member_name.Source at) = at
 member_at (member_name.Tag at) = at
+
+-- ---- MPI_Status (MPI 3.1 3.2.5), the first struct: four ints, of which a program names two
+
+-- MPI_Status
+abbrev pub status_name : Bytes
+status_name = 77 ∷ 80 ∷ 73 ∷ 95 ∷ 83 ∷ 116 ∷ 97 ∷ 116 ∷ 117 ∷ 115 ∷ []
+
+abbrev pub status_member : Bytes → ℕ → Member
+status_member name place = record { name = name; kind = record { element = integer Int; sizes = []; cells = 1 }; place = place }
+
+abbrev pub status_struct : Structure
+status_struct = record {
+  name = status_name;
+  members = status_member source_name 0 ∷ status_member tag_name 1 ∷ status_member [] 2 ∷ status_member [] 3 ∷ [];
+  extent = record { cells = 4; size = 16 };
+}
+
+abbrev pub status_type : CType
+status_type = record { base = Struct 0; stars = 0 }
+
+-- the structs that stand before those of a text
+abbrev pub first_structs : List Structure
+first_structs = status_struct ∷ []
 
 -- a member by its name, with its number
 abbrev pub numbered : ℕ → List Member → Bytes → Option (ℕ × Member)

@@ -2,6 +2,7 @@
 
 mod chains;
 mod operands;
+mod roles;
 mod selections;
 mod values;
 
@@ -18,6 +19,7 @@ use c_kernel::program::Expr;
 use c_tree::Kind;
 pub use chains::{arithmetic, begin, closed, comparison, logical, minus, plus, shift};
 pub use operands::{address, cast, dereference, negation, size_of, unary};
+pub use roles::{Role, note_roles, roles_of, roles_values};
 pub use selections::{arrow, dot, index, is_named, member_at};
 use sqlite_items::{Boxed, Items};
 use std::alloc::{AllocError, Global};

@@ -17,8 +17,8 @@ use std::mem;
 #[derive(Debug, Drop)]
 pub enum Entity {
     Variable(Variable),
-    /// A parameter of `main`.
-    Parameter,
+    /// The parameter of `main` with this number, counted from 0.
+    Parameter(usize),
 }
 
 /// A variable: its number in its function, and its type.
@@ -91,11 +91,13 @@ impl Scope {
         )
     }
 
-    /// Declares a name that is no variable.
+    /// Declares the next parameter of `main`, which is no variable.
+    #[tactic(auto, using(crate::proofs::Named::length_entries))]
     pub fn hide(&mut self, alloc: Global, name: &[u8]) -> Result<(), AllocError>
         ensures { OnOk result (scope_of self.new ≡ names.hide (scope_of self.old) name.now) }
     {
-        put(alloc, &mut self.here, name, Entity::Parameter)
+        let number = self.here.len();
+        put(alloc, &mut self.here, name, Entity::Parameter(number))
     }
 
     /// Goes into a block.

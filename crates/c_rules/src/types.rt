@@ -6,7 +6,7 @@ ghost use Rattle.c_rules.specs.Types as types;
 
 use crate::fault::{Fault, rule};
 use c_kernel::program::{Expr, Scalar};
-use c_kernel::{Base, CType, IntegerType, ObjectType, Struct, extent_of};
+use c_kernel::{Base, CType, Extent, IntegerType, Member, ObjectType, Struct, extent_of};
 use c_tree::Kind;
 use c_tree::tree::{PlainType, TypeSpecifier};
 use sqlite_items::{Boxed, Items};
@@ -45,19 +45,6 @@ pub fn known_number(structs: &[Struct], own: Option<&[u8]>, name: &[u8]) -> Opti
     }
 }
 
-/// Whether a type isn't built yet.
-pub fn is_unbuilt(specifier: &TypeSpecifier) -> bool
-    ensures { result ≡ types.is_unbuilt specifier.now }
-{
-    match specifier {
-        TypeSpecifier::Plain { plain, .. } => match plain {
-            PlainType::Status => true,
-            PlainType::Char | PlainType::Int | PlainType::Long | PlainType::Void => false,
-        },
-        TypeSpecifier::Struct { .. } => false,
-    }
-}
-
 fn base_of_word(word: PlainType) -> Base
     ensures { result ≡ types.base_of_word word }
 {
@@ -65,7 +52,8 @@ fn base_of_word(word: PlainType) -> Base
         PlainType::Char => Base::Integer(IntegerType::Char),
         PlainType::Int => Base::Integer(IntegerType::Int),
         PlainType::Long => Base::Integer(IntegerType::Long),
-        PlainType::Void | PlainType::Status => Base::Void,
+        PlainType::Void => Base::Void,
+        PlainType::Status => Base::Struct(0),
     }
 }
 
@@ -107,9 +95,6 @@ pub fn note_specifier(
 ) -> Result<(), AllocError>
     ensures { OnOk result (faults.new.items ≡ faults.old.items ++ types.specifier_rules structs.now (option_copied own.entry) specifier.now) }
 {
-    if is_unbuilt(specifier) {
-        return rule(faults, true, Kind::NotYet, 0);
-    }
     match specifier {
         TypeSpecifier::Plain { .. } => Ok(()),
         TypeSpecifier::Struct { name, .. } => {
@@ -429,6 +414,64 @@ pub fn value_type(kind: &ObjectType) -> CType
             stars: 0,
         },
     }
+}
+
+// ---- MPI_Status
+
+/// `MPI_Status`, which is the first struct.
+pub fn status_type() -> CType
+    ensures { result ≡ types.status_type }
+{
+    CType {
+        base: Base::Struct(0),
+        stars: 0,
+    }
+}
+
+// An int, which begins at this cell.
+fn status_member(alloc: Global, name: &[u8], place: u32) -> Result<Member, AllocError>
+    ensures { IfOk result (λ member. member ≡ types.status_member name.now place) }
+{
+    Ok(Member {
+        name: Items::from_slice(alloc, name)?,
+        kind: ObjectType {
+            element: integer(IntegerType::Int),
+            sizes: Items::new(alloc),
+            cells: 1,
+        },
+        place,
+    })
+}
+
+// Two of the members have no names that a program may use (MPI 3.1 3.2.5).
+fn status_members(alloc: Global) -> Result<Items<Member>, AllocError>
+    ensures { IfOk result (λ members. members ≡ types.status_struct.members) }
+{
+    let mut members = Items::new(alloc);
+    members.push(status_member(alloc, b"MPI_SOURCE", 0)?)?;
+    members.push(status_member(alloc, b"MPI_TAG", 1)?)?;
+    members.push(status_member(alloc, &[], 2)?)?;
+    members.push(status_member(alloc, &[], 3)?)?;
+    Ok(members)
+}
+
+fn status_struct(alloc: Global) -> Result<Struct, AllocError>
+    ensures { IfOk result (λ status. status ≡ types.status_struct) }
+{
+    Ok(Struct {
+        name: Items::from_slice(alloc, b"MPI_Status")?,
+        members: status_members(alloc)?,
+        extent: Extent { cells: 4, size: 16 },
+    })
+}
+
+/// The structs that stand before those of a text.
+pub fn first_structs(alloc: Global) -> Result<Items<Struct>, AllocError>
+    ensures { IfOk result (λ structs. structs ≡ types.first_structs) }
+{
+    let mut structs = Items::new(alloc);
+    structs.push(status_struct(alloc)?)?;
+    Ok(structs)
 }
 
 // ---- conversions

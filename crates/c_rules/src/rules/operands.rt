@@ -162,5 +162,5 @@ pub fn size_of(
         return Ok(None);
     }
     let size = extent_of(structs, kind).size;
-    Ok(Some(constant(alloc, at, size as u64, IntegerType::Long)?))
+    Ok(Some(constant(alloc, at, i64::from(size), IntegerType::Long)?))
 }

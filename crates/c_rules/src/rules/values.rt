@@ -1,6 +1,6 @@
 //! What is found, and its value.
 
-ghost use Rattle.std.specs.Prelude.{◌≡◌, ◌++◌, IfOk, OnOk};
+ghost use Rattle.std.specs.Prelude.{◌≡◌, ◌++◌, pos, IfOk, OnOk};
 ghost use Rattle.c_rules.specs.Rules as rules;
 ghost use Rattle.c_rules.specs.Types as types;
 
@@ -126,7 +126,7 @@ pub fn value_at(
 
 /// The literal 0 as a number.
 pub fn zero(alloc: Global, kind: IntegerType) -> Result<Boxed<Expr>, AllocError>
-    ensures { IfOk result (λ e. e ≡ Expr.Number 0 kind) }
+    ensures { IfOk result (λ e. e ≡ Expr.Number (pos 0) kind) }
 {
     Boxed::new(alloc, Expr::Number { value: 0, kind })
 }
@@ -197,7 +197,7 @@ pub fn note_pointer(faults: &mut Vec<Fault>, at: u32, kind: CType) -> Result<(),
     rule(faults, !is_target(kind), Kind::NotPointer, at)
 }
 
-fn are_alike(t: CType, u: CType) -> bool
+pub fn are_alike(t: CType, u: CType) -> bool
     ensures { result ≡ rules.are_alike t u }
 {
     same_type(t, u) || is_null(t) || is_null(u)
@@ -227,7 +227,7 @@ pub fn note_value(faults: &mut Vec<Fault>, kind: CType, a: &Found) -> Result<(),
 // ---- constants
 
 /// A number of the type.
-pub fn constant(alloc: Global, at: u32, value: u64, kind: IntegerType) -> Result<Found, AllocError>
+pub fn constant(alloc: Global, at: u32, value: i64, kind: IntegerType) -> Result<Found, AllocError>
     ensures { IfOk result (λ found. found ≡ rules.constant at value kind) }
 {
     let term = Boxed::new(alloc, Expr::Number { value, kind })?;
@@ -244,7 +244,7 @@ pub fn literal(alloc: Global, at: u32, value: u64, kind: IntegerType) -> Result<
             form: Form::Zero(kind),
         })
     } else {
-        constant(alloc, at, value, kind)
+        constant(alloc, at, value.cast_signed(), kind)
     }
 }
 
