@@ -2,13 +2,13 @@
 use Rattle.std.proofs.Common.{◌≡◌, ℕ, ◌+◌, ◌<◌, ◌≤◌, Bool, true, false, ◌&&◌, if◌then◌else◌, nat_eq, nat_lt, pos, List, [], ◌∷◌, Option, Some, None, Ok, Err, refl, ap, sym, ◌∙◌, arith}
 use Rattle.std.proofs.lemmas.Bool.Decides.{nat_tests}
 use Rattle.c3_base.specs.declared.cell.Cell.{Cell}
-use Rattle.mpi_words.specs.declared.operation.Op.{Op}
 use Rattle.c_kernel.specs.declared.types.Extent.{Extent}
 use Rattle.c_kernel.specs.declared.program.Action.{Action}
 use Rattle.c_kernel.specs.declared.program.Action.TheVariants.{Zero, Set, Call, Malloc}
 use Rattle.c_kernel.specs.declared.program.Expr.{Expr}
 use Rattle.c_kernel.specs.declared.program.Function.{Function}
 use Rattle.c_kernel.specs.declared.program.Place.{Place}
+use Rattle.c_meaning.specs.declared.requests.Request.{Request}
 use Rattle.c_meaning.specs.Memory.{Memory, null, pointer, cells_in, asked_with, grant, refuse, may_refuse, is_full}
 use Rattle.c_meaning.specs.Value.{Found, value_of}
 use Rattle.c_meaning.specs.State.{Item, Body, Rest, Begun, Acting, Awaiting, Testing, Stepping, State, Outcome, Asks}
@@ -98,10 +98,10 @@ newest_choice : (functions : List Function) (f : Choice) (s : State) (calls : Li
 newest_choice functions f s [] = (false, refl)
 newest_choice functions f s (top ∷ below) = first_choice functions f s top below top.todo
 
-abbrev step_by : List Function → Choice → State → Option Op → Outcome
-step_by functions f s asked = elim asked [ None ↦ step_in functions f s s.calls | Some o ↦ Asks o s ]
+abbrev step_by : List Function → Choice → State → Option Request → Outcome
+step_by functions f s asked = elim asked [ None ↦ step_in functions f s s.calls | Some q ↦ Asks q.operation s ]
 
-asked_choice : (functions : List Function) (f : Choice) (s : State) (asked : Option Op) → (b : Bool) × (step_by functions f s asked ≡ step_by functions (always b) s asked)
+asked_choice : (functions : List Function) (f : Choice) (s : State) (asked : Option Request) → (b : Bool) × (step_by functions f s asked ≡ step_by functions (always b) s asked)
 asked_choice functions f s None = newest_choice functions f s s.calls
 asked_choice functions f s (Some o) = (false, refl)
 

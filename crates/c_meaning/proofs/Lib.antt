@@ -10,7 +10,9 @@ pub mod ObjectExamples
 mod Examples
 pub mod ValueExamples
 mod StepExamples
+mod MpiExamples
 pub mod Follows
 pub mod Same
 pub mod Begins
 pub mod Exits
+pub mod Writes

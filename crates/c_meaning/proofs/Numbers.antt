@@ -1,5 +1,5 @@
 -- Numbers of the integer types.
-use Rattle.std.proofs.Common.{◌≡◌, ◌∙◌, ap, sym, refl, subst, arith, ℕ, ◌<◌, ◌^◌, ◌%◌, ℤ, pos, negsuc, FitsSigned, unsigned_abs, neg_ℤ, int_div, int_rem, zero, suc, ◌≤◌, ◌≢◌, ◌/◌, Bool, true, false, Ok, w8, w32, w64, to_z, of_z}
+use Rattle.std.proofs.Common.{◌≡◌, ◌∙◌, ap, sym, refl, subst, arith, ℕ, ◌<◌, ◌^◌, ℤ, pos, negsuc, FitsSigned, unsigned_abs, neg_ℤ, int_div, int_rem, zero, suc, ◌≤◌, ◌≢◌, ◌/◌, Bool, true, false, Ok, w8, w32, w64, to_z, of_z}
 use Rattle.std.proofs.lemmas.Int.{to_z-of_z, ints, SFits-int_wrap, quot_is, rem_is, fits_signed_from_abs}
 use Rattle.std.proofs.lemmas.Bool.Decides.{nat_tests}
 use Rattle.std.proofs.Math.Nat.{div-le_self}
@@ -8,7 +8,7 @@ use Rattle.c_kernel.specs.declared.types.IntegerType.{IntegerType}
 use Rattle.c_meaning.specs.Memory.{number}
 use mir.Val.{bits}
 use Rattle.std.specs.Int.{Width, w128, int_wrap, int_rem_euclid}
-use Rattle.c_kernel.specs.declared.types.IntegerType.TheVariants.{Char, Int, Long}
+use Rattle.c_kernel.specs.declared.types.IntegerType.TheVariants.{Char, Int}
 use Rattle.c_meaning.specs.Value.{narrowed, fits, is_zero, divided}
 
 wide_char : (z : ℤ) → FitsSigned w8 z → FitsSigned w64 z
@@ -34,18 +34,6 @@ narrowed_char n r m f g e h = kept w8 n m (wrapped w8 n r m (pos 256) f g refl e
 
 pub narrowed_int : (n r m : ℤ) → FitsSigned w64 n → FitsSigned w64 r → r ≡ int_rem_euclid (to_z w64 (of_z w64 n)) (pos 4294967296) → m ≡ to_z w32 (unsigned_abs (to_z w64 (of_z w64 r))) → to_z w64 (of_z w64 (to_z w32 (of_z w32 m))) ≡ narrowed Int n
 narrowed_int n r m f g e h = kept w32 n m (wrapped w32 n r m (pos 4294967296) f g refl e h) (wide_int m)
-
-pub literal_char : (n : ℕ) (m : ℤ) → m ≡ to_z w8 (n % 256) → to_z w64 (of_z w64 (to_z w8 (of_z w8 m))) ≡ narrowed Char (pos n)
-unfolding int_wrap
-literal_char n m e = kept w8 (pos n) m e (wide_char m)
-
-pub literal_int : (n : ℕ) (m : ℤ) → m ≡ to_z w32 (n % 4294967296) → to_z w64 (of_z w64 (to_z w32 (of_z w32 m))) ≡ narrowed Int (pos n)
-unfolding int_wrap
-literal_int n m e = kept w32 (pos n) m e (wide_int m)
-
-pub literal_long : (n : ℕ) (m : ℤ) → n < 2 ^ 64 → FitsSigned w64 m → m ≡ to_z w64 n → to_z w64 (of_z w64 m) ≡ narrowed Long (pos n)
-unfolding int_wrap
-literal_long n m l f e = to_z-of_z w64 m f ∙ e ∙ ap (to_z w64) (let s : n ≡ n % 2 ^ 64 = omega (arith, l) in s)
 
 -- ---- quotients
 

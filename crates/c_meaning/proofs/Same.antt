@@ -36,6 +36,7 @@ same_does functions s calls top items below todo x (stmt.Return None) = refl
 same_does functions s calls top items below todo x (stmt.Return (Some e)) = refl
 same_does functions s calls top items below todo x (stmt.Print format arguments) = refl
 same_does functions s calls top items below todo x (stmt.Free e) = refl
+same_does functions s calls top items below todo x (stmt.Mpi call) = refl
 same_does functions s calls top items below todo x stmt.Mark = refl
 
 same_acts : (functions : List Function) (refuses : Memory → ℕ → Bool) (s : State) (calls : List state.Call) (top : state.Call) (items : List Item) (below : List state.Call) (todo : List Item) (a : Action) → acts functions refuses (other s calls) (called top items) below todo a ≡ acts functions refuses s top below todo a
@@ -63,6 +64,7 @@ same_tests s calls top items below todo x stmt.Continue = refl
 same_tests s calls top items below todo x (stmt.Return e) = refl
 same_tests s calls top items below todo x (stmt.Print format arguments) = refl
 same_tests s calls top items below todo x (stmt.Free e) = refl
+same_tests s calls top items below todo x (stmt.Mpi call) = refl
 same_tests s calls top items below todo x stmt.Mark = refl
 
 same_steps : (s : State) (calls : List state.Call) (top : state.Call) (items : List Item) (below : List state.Call) (todo : List Item) (x : Stmt) (y : Stmt-F Stmt) → steps (other s calls) (called top items) below todo x y ≡ steps s top below todo x y
@@ -77,6 +79,7 @@ same_steps s calls top items below todo x stmt.Continue = refl
 same_steps s calls top items below todo x (stmt.Return e) = refl
 same_steps s calls top items below todo x (stmt.Print format arguments) = refl
 same_steps s calls top items below todo x (stmt.Free e) = refl
+same_steps s calls top items below todo x (stmt.Mpi call) = refl
 same_steps s calls top items below todo x stmt.Mark = refl
 
 pub same_step : (functions : List Function) (refuses : Memory → ℕ → Bool) (s : State) (calls : List state.Call) (top : state.Call) (items : List Item) (below : List state.Call) (todo : List Item) → goes_on functions refuses (other s calls) (called top items) below todo ≡ goes_on functions refuses s top below todo

@@ -15,23 +15,28 @@ use Rattle.c_kernel.specs.declared.program.Expr.TheViews.{roll-Expr}
 use Rattle.c_kernel.specs.declared.program.Stmt.{Stmt}
 use Rattle.c_kernel.specs.declared.program.Stmt.TheOpen.{Stmt-F}
 use Rattle.c_kernel.specs.declared.program.Stmt.TheViews.{roll-Stmt}
+use Rattle.c_meaning.specs.declared.seat.Seat.{Seat}
+use Rattle.c_meaning.specs.declared.seat.Phase.TheVariants.{Before, Inside}
 use Rattle.c_meaning.specs.Memory.{number, null, pointer, is_full}
 use Rattle.c_meaning.specs.Value.{value_of}
 use Rattle.c_meaning.specs.Text.{printed}
 use Rattle.c_meaning.specs.State.{Item, Body, Rest, Begun, Acting, Awaiting, Testing, Stepping, State, Outcome, Goes, Asks, Ends}
 use Rattle.c_meaning.specs.State as state
-use Rattle.c_meaning.specs.Step.{step, branch, does, acts, tests, answered, start}
+use Rattle.c_meaning.specs.Step.{step, branch, does, acts, tests, answered, plain_request, start}
 use Rattle.c_meaning.proofs.Nodes.{value_roll}
 use Rattle.c_meaning.proofs.ValueExamples.{figure, place, loaded, address, one, seven}
+
+abbrev pub seat : Seat
+seat = record { rank = 2; ranks = 4; any_source = false }
 
 abbrev pub main_with : List Item → state.Call
 main_with todo = record { todo = todo; variables = one }
 
 abbrev pub in_main : List Item → State
-in_main todo = record { calls = main_with todo ∷ []; memory = seven; printed = 5; asked = None }
+in_main todo = record { calls = main_with todo ∷ []; memory = seven; seat = seat; phase = Inside; printed = 5; asked = None }
 
 abbrev pub holding : ℕ → List Item → State
-holding n todo = record { calls = main_with todo ∷ []; memory = record { variables = record { serial = 4; cells = number (pos n) ∷ [] } ∷ []; heap = []; next = 5; calls = 1; asked = 0 }; printed = 5; asked = None }
+holding n todo = record { calls = main_with todo ∷ []; memory = record { variables = record { serial = 4; cells = number (pos n) ∷ [] } ∷ []; heap = []; next = 5; calls = 1; asked = 0 }; seat = seat; phase = Inside; printed = 5; asked = None }
 
 -- a statement that has begun, with what follows
 abbrev pub done : Stmt-F Stmt → List Item → Outcome
@@ -49,7 +54,7 @@ next = refl
 no_more : step [] is_full (in_main (Rest [] ∷ Body [] ∷ [])) ≡ Goes false (in_main (Body [] ∷ []))
 no_more = refl
 
-no_room : step [] is_full (record { calls = []; memory = seven; printed = 0; asked = None }) ≡ Ends (Fault 108)
+no_room : step [] is_full (record { calls = []; memory = seven; seat = seat; phase = Inside; printed = 0; asked = None }) ≡ Ends (Fault 108)
 no_room = refl
 
 -- main's end
@@ -92,7 +97,7 @@ continued : done Stmt-F.Continue (Rest [] ∷ Stepping leave ∷ []) ≡ Goes fa
 continued = refl
 
 -- printf("%d\n", x);
-output : done (Stmt-F.Print (Decimal ∷ Byte 10 ∷ []) (loaded (place 0) ∷ [])) [] ≡ Asks (op.Output (55 ∷ 10 ∷ [])) (record { calls = main_with [] ∷ []; memory = seven; printed = 5; asked = Some (op.Output (55 ∷ 10 ∷ [])) })
+output : done (Stmt-F.Print (Decimal ∷ Byte 10 ∷ []) (loaded (place 0) ∷ [])) [] ≡ Asks (op.Output (55 ∷ 10 ∷ [])) (record { calls = main_with [] ∷ []; memory = seven; seat = seat; phase = Inside; printed = 5; asked = Some (plain_request (op.Output (55 ∷ 10 ∷ []))) })
 unfolding int_wrap digits
 output = simp (value_roll, value_of) refl
 
@@ -102,10 +107,10 @@ unfolding digits
 texts = refl
 
 -- an operation waits for its reply, and then counts
-waits : step [] is_full (record { calls = []; memory = seven; printed = 5; asked = Some op.Mark }) ≡ Asks op.Mark (record { calls = []; memory = seven; printed = 5; asked = Some op.Mark })
+waits : step [] is_full (record { calls = []; memory = seven; seat = seat; phase = Inside; printed = 5; asked = Some (plain_request op.Mark) }) ≡ Asks op.Mark (record { calls = []; memory = seven; seat = seat; phase = Inside; printed = 5; asked = Some (plain_request op.Mark) })
 waits = refl
 
-counted : answered (record { calls = []; memory = seven; printed = 5; asked = Some (op.Output (55 ∷ 10 ∷ [])) }) Done ≡ record { calls = []; memory = seven; printed = 7; asked = None }
+counted : answered (record { calls = []; memory = seven; seat = seat; phase = Inside; printed = 5; asked = Some (plain_request (op.Output (55 ∷ 10 ∷ []))) }) Done ≡ Goes false (record { calls = []; memory = seven; seat = seat; phase = Inside; printed = 7; asked = None })
 counted = refl
 
 -- x = malloc(5) of objects of two cells and four bytes, and free
@@ -118,6 +123,8 @@ allocates : acts [] is_full (in_main []) (main_with []) [] [] (action.Malloc (pl
     calls = 1;
     asked = 2;
   };
+  seat = seat;
+  phase = Inside;
   printed = 5;
   asked = None;
 })
@@ -146,11 +153,14 @@ program = record {
     body = leave ∷ [];
   } ∷ [];
   main = 0;
+  any_source = true;
 }
 
-started : start program ≡ record {
+started : start program 2 4 ≡ record {
   calls = record { todo = Body (leave ∷ []) ∷ []; variables = record { first = 1; count = 1 } } ∷ [];
   memory = record { variables = record { serial = 1; cells = null ∷ null ∷ [] } ∷ []; heap = []; next = 2; calls = 1; asked = 0 };
+  seat = record { rank = 2; ranks = 4; any_source = true };
+  phase = Before;
   printed = 0;
   asked = None;
 }

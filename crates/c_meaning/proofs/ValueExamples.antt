@@ -24,7 +24,7 @@ use Rattle.c_meaning.specs.Value.{Found, then_with, converted, linked, chained, 
 use Rattle.c_meaning.proofs.Nodes.{value_roll, load_roll, address_roll}
 
 abbrev pub figure : ℕ → Expr
-figure n = roll-Expr (Expr-F.Number n Int)
+figure n = roll-Expr (Expr-F.Number (pos n) Int)
 
 abbrev pub place : ℕ → Place Expr
 place k = record { root = root.Variable k; steps = [] }

@@ -32,6 +32,7 @@ branch_in stmt.Continue n = []
 branch_in (stmt.Return e) n = []
 branch_in (stmt.Print format arguments) n = []
 branch_in (stmt.Free e) n = []
+branch_in (stmt.Mpi call) n = []
 branch_in stmt.Mark n = []
 
 -- what a statement does at once
@@ -51,6 +52,7 @@ actions_in stmt.Continue part = []
 actions_in (stmt.Return e) part = []
 actions_in (stmt.Print format arguments) part = []
 actions_in (stmt.Free e) part = []
+actions_in (stmt.Mpi call) part = []
 actions_in stmt.Mark part = []
 
 -- where the result of an action goes

@@ -1,5 +1,5 @@
 -- Memory: objects, each a list of cells, found by their serials. There are no addresses.
-use Rattle.std.specs.Prelude.{ℕ, ◌+◌, ◌-◌, ℤ, pos, negsuc, Bool, true, false, not, nat_eq, nat_lt, if◌then◌else◌, List, [], ◌∷◌, ◌++◌, length, take, replicate, Option, Some, None, Result, Ok, Err, slice_get, slice_set}
+use Rattle.std.specs.Prelude.{ℕ, ◌+◌, ◌-◌, ℤ, pos, negsuc, ◌+ℤ◌, unsigned_abs, Bool, true, false, not, nat_eq, nat_lt, if◌then◌else◌, List, [], ◌∷◌, ◌++◌, length, take, drop, replicate, Option, Some, None, Result, Ok, Err, slice_get, slice_set}
 use Rattle.c3_base.specs.declared.cell.Cell.{Cell}
 use Rattle.c_meaning.specs.declared.spot.Spot.{Spot}
 
@@ -66,6 +66,18 @@ cell_in (Some cells) place = cell_at cells place
 abbrev pub load : Memory → Spot → Result Cell ℕ
 load m p = if nat_eq p.serial 0 then Err 101 else cell_in (cells_of m p.serial) p.place
 
+-- so many cells from a spot on, all of them in one object, with the same tests; none of them isn't tested
+abbrev pub are_in : List Cell → ℤ → ℕ → Bool
+are_in cells (negsuc k) n = false
+are_in cells (pos k) n = not (nat_lt (length cells) (k + n))
+
+abbrev pub piece_in : Option (List Cell) → ℤ → ℕ → Result (List Cell) ℕ
+piece_in None place n = Err 103
+piece_in (Some cells) place n = if are_in cells place n then Ok (take n (drop (unsigned_abs place) cells)) else Err 102
+
+abbrev pub load_all : Memory → Spot → ℕ → Result (List Cell) ℕ
+load_all m p n = if nat_eq n 0 then Ok [] else if nat_eq p.serial 0 then Err 101 else piece_in (cells_of m p.serial) p.place n
+
 -- a list with a cell put at a place
 abbrev pub with_cell : List Cell → ℤ → Cell → List Cell
 with_cell cells (negsuc n) c = cells
@@ -83,6 +95,11 @@ put_by m p c (Some cells) = record m { variables = put_cell m.variables p c }
 
 abbrev pub put : Memory → Spot → Cell → Memory
 put m p c = put_by m p c (find_object m.variables p.serial)
+
+-- cells that are put from a spot on
+abbrev pub put_all : Memory → Spot → List Cell → Memory
+put_all m p [] = m
+put_all m p (c ∷ cs) = put_all (put m p c) (record { serial = p.serial; place = p.place +ℤ pos 1 }) cs
 
 -- a store tests as a load does
 abbrev pub store : Memory → Spot → Cell → Result Memory ℕ

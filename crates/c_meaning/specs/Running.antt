@@ -1,5 +1,6 @@
 -- What a program that runs stands for.
-use Rattle.std.specs.Prelude.{ℕ, List, [], ◌∷◌, map, reverse}
+use Rattle.std.specs.Prelude.{ℕ, false, List, [], ◌∷◌, map, reverse, Option, Some, None}
+use Rattle.mpi_words.specs.declared.operation.End.{End}
 use Rattle.c_kernel.specs.declared.program.Function.{Function}
 use Rattle.c_kernel.specs.declared.program.Stmt.{Stmt}
 use Rattle.c_meaning.specs.declared.level.Level.{Level}
@@ -8,6 +9,9 @@ use Rattle.c_meaning.specs.declared.frame.Frame.{Frame}
 use Rattle.c_meaning.specs.declared.running.Running.{Running}
 use Rattle.c_meaning.specs.declared.running.Step.{Step}
 use Rattle.c_meaning.specs.declared.running.Step.TheVariants.{Local, Wants, Ended}
+use Rattle.c_meaning.specs.declared.mpi.Effect as mpi
+use Rattle.c_meaning.specs.Memory.{Memory}
+use Rattle.c_meaning.specs.Mpi.{Effect}
 use Rattle.c_meaning.specs.Level.{block_at, items_of, level_items}
 use Rattle.c_meaning.specs.State.{Item, State, Outcome, Goes, Asks, Ends}
 use Rattle.c_meaning.specs.State as state
@@ -38,6 +42,8 @@ abbrev pub state_of : List Function → Running → State
 state_of functions run = record {
   calls = calls_of functions run.frames.items;
   memory = run.memory;
+  seat = run.requests.seat;
+  phase = run.requests.phase;
   printed = run.requests.printed;
   asked = run.requests.asked;
 }
@@ -51,6 +57,15 @@ abbrev pub outcome_of : Step → State → Outcome
 outcome_of (Local began) s = Goes began s
 outcome_of (Wants op) s = Asks op s
 outcome_of (Ended end) s = Ends end
+
+-- what is said of a reply, with the state after it
+abbrev pub answer_of : Option End → State → Outcome
+answer_of None s = Goes false s
+answer_of (Some end) s = Ends end
+
+-- what a call of MPI comes to, with the memory after it
+abbrev pub with_memory : Memory → mpi.Effect → Effect
+with_memory m e = record { memory = m; phase = e.phase; request = e.request }
 
 -- a step in the newest call, which was taken from the others
 abbrev pub in_call : {A : Type 0} → (State → state.Call → List state.Call → A) → List Function → Running → Frame → A

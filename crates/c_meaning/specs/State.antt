@@ -6,6 +6,9 @@ use Rattle.c_kernel.specs.declared.program.Stmt.{Stmt}
 use Rattle.c_kernel.specs.declared.program.Action.{Action}
 use Rattle.c_kernel.specs.declared.program.Target.{Target}
 use Rattle.c_meaning.specs.Memory.{Memory}
+use Rattle.c_meaning.specs.declared.seat.Seat.{Seat}
+use Rattle.c_meaning.specs.declared.seat.Phase.{Phase}
+use Rattle.c_meaning.specs.declared.requests.Request.{Request}
 use Rattle.c_meaning.specs.declared.value.Variables.{Variables}
 
 -- what follows in a function
@@ -30,12 +33,14 @@ pub record Call : Type 0 where
   pub todo : List Item
   pub variables : Variables
 
--- the calls, the newest first; memory; how many bytes were printed; an operation that waits for its reply
+-- the calls, the newest first; memory; the rank's seat among the ranks; the phase of its use of MPI; how many bytes were printed; an operation that waits for its reply
 pub record State : Type 0 where
   pub calls : List Call
   pub memory : Memory
+  pub seat : Seat
+  pub phase : Phase
   pub printed : ℕ
-  pub asked : Option Op
+  pub asked : Option Request
 
 -- one step: a new state, where a statement may have begun; an operation, with the state that waits for its reply; an end
 pub data Outcome : Type 0 where

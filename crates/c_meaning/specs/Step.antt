@@ -5,6 +5,7 @@ use Rattle.mpi_words.specs.declared.operation.Op.{Op}
 use Rattle.mpi_words.specs.declared.operation.Op.TheVariants as op
 use Rattle.mpi_words.specs.declared.operation.End.TheVariants.{Exit, Fault}
 use Rattle.mpi_words.specs.declared.operation.Reply.{Reply}
+use Rattle.mpi_words.specs.declared.operation.Reply.TheVariants as reply
 use Rattle.c_kernel.specs.declared.types.Extent.{Extent}
 use Rattle.c_kernel.specs.declared.types.IntegerType.TheVariants.{Int}
 use Rattle.c_kernel.specs.declared.program.Function.{Function}
@@ -12,15 +13,21 @@ use Rattle.c_kernel.specs.declared.program.Program.{Program}
 use Rattle.c_kernel.specs.declared.program.Expr.{Expr}
 use Rattle.c_kernel.specs.declared.program.Place.{Place}
 use Rattle.c_kernel.specs.declared.program.Arm.{Arm}
+use Rattle.c_kernel.specs.declared.program.MpiCall.{MpiCall}
 use Rattle.c_kernel.specs.declared.program.Action.{Action}
 use Rattle.c_kernel.specs.declared.program.Action.TheVariants.{Zero, Set, Call, Malloc}
 use Rattle.c_kernel.specs.declared.program.Stmt.{Stmt, out-Stmt}
 use Rattle.c_kernel.specs.declared.program.Stmt.TheOpen.{Stmt-F}
 use Rattle.c_kernel.specs.declared.program.Stmt.TheOpen as stmt
+use Rattle.c_meaning.specs.declared.seat.Seat.{Seat}
+use Rattle.c_meaning.specs.declared.seat.Phase.TheVariants.{Before}
+use Rattle.c_meaning.specs.declared.requests.Request.{Request}
+use Rattle.c_meaning.specs.declared.requests.Receipt.{Receipt}
 use Rattle.c_meaning.specs.declared.value.Variables.{Variables}
 use Rattle.c_meaning.specs.Memory.{Memory, empty, number, null, pointer, put, store, zeroed, enter, leave, grant, refuse, may_refuse, free}
 use Rattle.c_meaning.specs.Value.{is_false, narrowed, read_of, variable_of, place_of, value_of, values_of}
 use Rattle.c_meaning.specs.Text.{printed}
+use Rattle.c_meaning.specs.Mpi.{Effect, effect, received}
 use Rattle.c_meaning.specs.State.{Item, Body, Rest, Begun, Acting, Awaiting, Testing, Stepping, State, Outcome, Goes, Asks, Ends, after_loop, to_loop}
 use Rattle.c_meaning.specs.State as state
 
@@ -49,8 +56,12 @@ abbrev pub goes_with : State → state.Call → List state.Call → List Item �
 goes_with s top below todo m = Goes false (record s { calls = record top { todo = todo } ∷ below; memory = m })
 
 -- with an operation, which waits for its reply
-abbrev pub asks : State → state.Call → List state.Call → List Item → Op → Outcome
-asks s top below todo o = Asks o (record s { calls = record top { todo = todo } ∷ below; asked = Some o })
+abbrev pub asks : State → state.Call → List state.Call → List Item → Request → Outcome
+asks s top below todo q = Asks q.operation (record s { calls = record top { todo = todo } ∷ below; asked = Some q })
+
+-- an operation of whose reply nothing is kept
+abbrev pub plain_request : Op → Request
+plain_request o = record { operation = o; receipt = None }
 
 -- ---- calls (6.5.2.2)
 
@@ -141,7 +152,19 @@ branch (a ∷ arms) otherwise v m = elim (value_of a.test v m) [
 
 -- what printf prints, or 109 where the output would have more than 1,048,576 bytes
 abbrev pub prints : State → state.Call → List state.Call → List Item → List ℕ → Outcome
-prints s top below todo text = if nat_lt 1048576 (s.printed + length text) then Ends (Fault 109) else asks s top below todo (op.Output text)
+prints s top below todo text = if nat_lt 1048576 (s.printed + length text) then Ends (Fault 109) else asks s top below todo (plain_request (op.Output text))
+
+-- what a call of MPI comes to
+abbrev pub comes_to : State → state.Call → List state.Call → List Item → Effect → Outcome
+comes_to s top below todo e = elim e.request [
+  | None ↦ Goes false (record s { calls = record top { todo = todo } ∷ below; memory = e.memory; phase = e.phase })
+  | Some q ↦ asks (record s { memory = e.memory; phase = e.phase }) top below todo q
+]
+
+abbrev pub calls_mpi : State → state.Call → List state.Call → List Item → MpiCall → Outcome
+calls_mpi s top below todo call =
+    with_ok (values_of call.arguments top.variables s.memory) (λ vs.
+    with_ok (effect s.seat s.phase s.memory call.function vs) (comes_to s top below todo))
 
 abbrev pub does : List Function → State → state.Call → List state.Call → List Item → Stmt → Stmt-F Stmt → Outcome
 does functions s top below todo x (stmt.Actions actions) = goes_to s top below (Acting actions ∷ todo)
@@ -156,7 +179,8 @@ does functions s top below todo x (stmt.Return None) = returned s top below (num
 does functions s top below todo x (stmt.Return (Some e)) = with_ok (value_of e top.variables s.memory) (returned s top below)
 does functions s top below todo x (stmt.Print format arguments) = with_ok (values_of arguments top.variables s.memory) (λ vs. prints s top below todo (printed format vs))
 does functions s top below todo x (stmt.Free e) = with_ok (value_of e top.variables s.memory) (λ p. with_ok (free s.memory p) (goes_with s top below todo))
-does functions s top below todo x stmt.Mark = asks s top below todo op.Mark
+does functions s top below todo x (stmt.Mpi call) = calls_mpi s top below todo call
+does functions s top below todo x stmt.Mark = asks s top below todo (plain_request op.Mark)
 
 -- ---- loops (6.8.5)
 
@@ -198,7 +222,7 @@ step_in functions refuses s (top ∷ below) = goes_on functions refuses s top be
 
 -- one step. An operation waits for its reply. Where malloc may give NULL, it does so by a choice
 abbrev pub step : List Function → (Memory → ℕ → Bool) → State → Outcome
-step functions refuses s = elim s.asked [ None ↦ step_in functions refuses s s.calls | Some o ↦ Asks o s ]
+step functions refuses s = elim s.asked [ None ↦ step_in functions refuses s s.calls | Some q ↦ Asks q.operation s ]
 
 -- ---- whether the next step begins a statement
 
@@ -218,22 +242,44 @@ begins_in [] = false
 begins_in (top ∷ below) = begins_first top.todo
 
 abbrev pub begins : State → Bool
-begins s = elim s.asked [ None ↦ begins_in s.calls | Some o ↦ false ]
+begins s = elim s.asked [ None ↦ begins_in s.calls | Some q ↦ false ]
 
 -- ---- replies and the start
 
-abbrev pub bytes_of : Option Op → ℕ
-bytes_of None = 0
-bytes_of (Some (op.Output text)) = length text
-bytes_of (Some op.Mark) = 0
+-- how many bytes an operation prints
+abbrev pub bytes_of : Op → ℕ
+bytes_of (op.Send to message) = 0
+bytes_of (op.Receive patterns) = 0
+bytes_of (op.Output text) = length text
+bytes_of op.Mark = 0
 
--- after the reply
-abbrev pub answered : State → Reply → State
-answered s reply = record s { asked = None; printed = s.printed + bytes_of s.asked }
+abbrev pub bytes_asked : Option Request → ℕ
+bytes_asked None = 0
+bytes_asked (Some q) = bytes_of q.operation
 
--- main is entered
-abbrev pub start : Program → State
-start p = elim (enter empty (lengths_of p.functions p.main)) [
-  | Err code ↦ record { calls = []; memory = empty; printed = 0; asked = None }
-  | Ok m ↦ record { calls = call_of p.functions p.main 1 ∷ []; memory = m; printed = 0; asked = None }
+-- the operation is done
+abbrev pub finished : State → State
+finished s = record s { asked = None; printed = s.printed + bytes_asked s.asked }
+
+-- what is done with a message that came for a receive
+abbrev pub taken_in : State → Option Receipt → Reply → Outcome
+taken_in s (Some r) (reply.Got source message) = with_ok (received r s.memory source message) (λ m. Goes false (record s { memory = m }))
+taken_in s _ _ = Goes false s
+
+abbrev pub receipt_of : Option Request → Option Receipt
+receipt_of None = None
+receipt_of (Some q) = q.receipt
+
+-- after the reply the rank goes on, or ends
+abbrev pub answered : State → Reply → Outcome
+answered s r = taken_in (finished s) (receipt_of s.asked) r
+
+-- main is entered, by one of so many ranks
+abbrev pub seat_of : Program → ℕ → ℕ → Seat
+seat_of p rank ranks = record { rank = rank; ranks = ranks; any_source = p.any_source }
+
+abbrev pub start : Program → ℕ → ℕ → State
+start p rank ranks = elim (enter empty (lengths_of p.functions p.main)) [
+  | Err code ↦ record { calls = []; memory = empty; seat = seat_of p rank ranks; phase = Before; printed = 0; asked = None }
+  | Ok m ↦ record { calls = call_of p.functions p.main 1 ∷ []; memory = m; seat = seat_of p rank ranks; phase = Before; printed = 0; asked = None }
 ]

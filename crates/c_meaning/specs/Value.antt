@@ -236,7 +236,7 @@ spot_in p v m = reached (root_of p.root v m) p.steps v m
 -- ---- the nodes. A literal fits its type, so that narrowing leaves it as it is
 
 abbrev pub meaning_node : Expr-F Meaning → Meaning
-meaning_node (expr.Number n kind) v m = Ok (number (narrowed kind (pos n)))
+meaning_node (expr.Number n kind) v m = Ok (number (narrowed kind n))
 meaning_node expr.Null v m = Ok null
 meaning_node (expr.Load p kind) v m = then_with (spot_in p v m) (load_of m kind)
 meaning_node (expr.Address p) v m = then_with (spot_in p v m) (pointing m)

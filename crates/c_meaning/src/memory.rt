@@ -1,11 +1,11 @@
 //! The memory of a program.
 
-ghost use Rattle.std.specs.Prelude.{◌≡◌, ◌+◌, ◌<◌, ◌≤◌, ◌^◌, length, IfOk, IfErr, Some, option_map, false, nat_eq, nat_lt, pos};
+ghost use Rattle.std.specs.Prelude.{◌≡◌, ◌+◌, ◌<◌, ◌≤◌, ◌^◌, length, map, IfOk, IfErr, Some, option_map, false, nat_eq, nat_lt, pos};
 ghost use Rattle.c_meaning.specs.Memory as spec;
-ghost use Rattle.c_meaning.specs.Memory.{empty, cells_of, load, store, put, pointing, zeroed, used, enter, leave, grant, free, is_full, map_ok, total, add_variable};
+ghost use Rattle.c_meaning.specs.Memory.{empty, cells_of, load, store, put, load_all, put_all, pointing, zeroed, used, enter, leave, grant, free, is_full, map_ok, total, add_variable};
 ghost use Rattle.c_meaning.specs.Step.{allocated};
 
-use crate::object::{Object, find, put, take_away, total_cells, zero};
+use crate::object::{Object, find, put, put_numbers, take_away, total_cells, zero};
 use crate::spot::{NULL, Spot};
 use c3_base::Cell;
 use std::alloc::{AllocError, Global};
@@ -84,6 +84,19 @@ impl Memory {
         }
     }
 
+    /// So many cells from a place on, all of them in one object, or a fault. No cells are of no object.
+    pub fn load_all(&self, spot: Spot, n: u64) -> Result<&[Cell], u16>
+        ensures { map_ok (λ cells. cells.now) result ≡ load_all self.now spot n }
+    {
+        if n == 0 {
+            Ok(&[])
+        } else if spot.serial == 0 {
+            Err(101)
+        } else {
+            piece(self.cells(spot.serial), spot.place, n)
+        }
+    }
+
     /// Puts a cell at a place, or finds a fault and changes nothing.
     pub fn store(&mut self, spot: Spot, cell: Cell) -> Result<(), u16>
         ensures done { map_ok (λ done. self.new) result ≡ store self.old spot cell }
@@ -105,6 +118,16 @@ impl Memory {
         match find(&self.variables, spot.serial) {
             Some(_) => put(&mut self.variables, spot, cell),
             None => put(&mut self.heap, spot, cell),
+        }
+    }
+
+    /// Puts numbers from a place on, without a test.
+    pub fn put_numbers(&mut self, spot: Spot, numbers: &[i64])
+        ensures { self.new ≡ put_all self.old spot (map spec.number numbers.now) }
+    {
+        match find(&self.variables, spot.serial) {
+            Some(_) => put_numbers(&mut self.variables, spot, numbers),
+            None => put_numbers(&mut self.heap, spot, numbers),
         }
     }
 
@@ -263,6 +286,32 @@ fn cell_at(cells: &[Cell], place: i128) -> Result<Cell, u16>
         return Err(102);
     }
     Ok(cells[place as usize])
+}
+
+// So many cells of an object from a place on.
+fn piece(cells: Option<&[Cell]>, place: i128, n: u64) -> Result<&[Cell], u16>
+    ensures { map_ok (λ piece. piece.now) result ≡ spec.piece_in (option_map (λ found. found.now) cells.entry) place n }
+{
+    match cells {
+        None => Err(103),
+        Some(cells) => piece_of(cells, place, n),
+    }
+}
+
+fn piece_of(cells: &[Cell], place: i128, n: u64) -> Result<&[Cell], u16>
+    ensures { map_ok (λ piece. piece.now) result ≡ spec.piece_in (Some cells.now) place n }
+{
+    if are_in(cells, place, n) {
+        Ok(&cells[place as usize..][..n as usize])
+    } else {
+        Err(102)
+    }
+}
+
+fn are_in(cells: &[Cell], place: i128, n: u64) -> bool
+    ensures { result ≡ spec.are_in cells.now place n }
+{
+    place >= 0 && place <= cells.len() as i128 - i128::from(n)
 }
 
 // A pointer to a place in an object with these cells.

@@ -1,6 +1,6 @@
 //! Numbers of the integer types.
 
-ghost use Rattle.std.specs.Prelude.{◌≡◌, ◌<◌, pos, Ok, int_div, int_rem};
+ghost use Rattle.std.specs.Prelude.{◌≡◌, ◌<◌, Ok, int_div, int_rem};
 ghost use Rattle.c_meaning.specs.Memory as memory;
 ghost use Rattle.c_meaning.specs.Value.{unary_of, arithmetic_of, divided, shifted, shift_of, size_in_bits};
 ghost use Rattle.c_meaning.specs.Value as spec;
@@ -31,17 +31,6 @@ pub fn narrowed(kind: IntegerType, n: i64) -> i64
         IntegerType::Char => (n.rem_euclid(256) as u8).cast_signed() as i64,
         IntegerType::Int => (n.rem_euclid(4_294_967_296) as u32).cast_signed() as i64,
         IntegerType::Long => n,
-    }
-}
-
-/// The same for a literal.
-pub fn literal(kind: IntegerType, n: u64) -> i64
-    ensures { result ≡ spec.narrowed kind (pos n) }
-{
-    match kind {
-        IntegerType::Char => ((n % 256) as u8).cast_signed() as i64,
-        IntegerType::Int => ((n % 4_294_967_296) as u32).cast_signed() as i64,
-        IntegerType::Long => n.cast_signed(),
     }
 }
 

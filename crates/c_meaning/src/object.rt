@@ -1,11 +1,13 @@
 //! Objects by their serials.
 
-ghost use Rattle.std.specs.Prelude.{◌≡◌, ◌+◌, ◌<◌, ◌^◌, ℕ, option_map, length, replicate, IfSome};
+ghost use Rattle.std.specs.Prelude.{◌≡◌, ◌+◌, ◌<◌, ◌^◌, ℕ, option_map, length, map, replicate, IfSome};
 ghost use Rattle.c_meaning.specs.Order.{IsRising, place_of};
 ghost use Rattle.c_meaning.specs.Seen.{serial_of, objects_of};
 ghost use Rattle.c_meaning.specs.Memory as memory;
 ghost use Rattle.c_meaning.specs.Memory.{find_object, put_cell, zero_object, without, with_cell, cells_in};
+ghost use Rattle.c_meaning.specs.Written.{put_cells, with_cells};
 
+use crate::number::number;
 use crate::spot::{NULL, Spot};
 use c3_base::Cell;
 
@@ -68,6 +70,32 @@ fn put_in(cells: &mut Vec<Cell>, at: i128, cell: Cell)
 {
     if at >= 0 && at < cells.len() as i128 {
         cells[at as usize] = cell;
+    }
+}
+
+/// Puts numbers from a place on.
+pub fn put_numbers(objects: &mut Vec<Object>, spot: Spot, numbers: &[i64])
+    requires { IsRising serial_of 0 objects.old.items (2 ^ 64) }
+    ensures cells { cells_in (objects_of objects.new.items) ≡ cells_in (objects_of objects.old.items) }
+    ensures put { objects_of objects.new.items ≡ put_cells (objects_of objects.old.items) spot (map memory.number numbers.now) }
+    ensures rising { (low : ℕ) → (high : ℕ) → IsRising serial_of low objects.old.items high → IsRising serial_of low objects.new.items high }
+{
+    if let Some(i) = place(objects, spot.serial) {
+        put_from(&mut objects[i].cells, spot.place, numbers);
+    }
+}
+
+// Puts numbers among cells, from a place on.
+fn put_from(cells: &mut Vec<Cell>, at: i128, numbers: &[i64])
+    ensures { cells.new.items ≡ with_cells cells.old.items at (map memory.number numbers.now) }
+{
+    let mut place = at;
+    for n in numbers {
+        if place >= cells.len() as i128 {
+            return;
+        }
+        put_in(cells, place, number(*n));
+        place += 1;
     }
 }
 

@@ -1,6 +1,6 @@
 //! A rank that runs a program.
 
-ghost use Rattle.std.specs.Prelude.{◌≡◌, ◌<◌, ◌^◌, IfOk, List};
+ghost use Rattle.std.specs.Prelude.{◌≡◌, ◌<◌, ◌^◌, ℕ, IfOk, is_some, List};
 ghost use Rattle.c_meaning.specs.Level.{level_items};
 ghost use Rattle.c_meaning.specs.Memory.{is_full};
 ghost use Rattle.c_meaning.specs.State.{Item};
@@ -14,9 +14,10 @@ use crate::level::{Stage, block_at, body};
 use crate::memory::Memory;
 use crate::requests::Requests;
 use crate::running::{Running, Step};
+use crate::seat::Seat;
 use c_kernel::program::{Function, Program, Stmt};
 use c3_base::NoMemory;
-use mpi_words::Reply;
+use mpi_words::{End, Reply};
 use std::alloc::Global;
 use std::rc::Rc;
 
@@ -28,13 +29,23 @@ pub struct Rank {
 }
 
 impl Rank {
-    /// A rank that enters `main`.
-    pub fn new(alloc: Global, program: &Rc<Program>) -> Result<Rank, NoMemory>
-        ensures program { IfOk result (λ rank. functions_of rank ≡ program.now.value.functions) }
-        ensures start { IfOk result (λ rank. state_of rank ≡ step.start program.now.value) }
+    /// A rank, of so many, that enters `main`.
+    pub fn new(
+        alloc: Global,
+        program: &Rc<Program>,
+        rank: u16,
+        ranks: u16,
+    ) -> Result<Rank, NoMemory>
+        ensures program { IfOk result (λ made. functions_of made ≡ program.now.value.functions) }
+        ensures start { IfOk result (λ made. state_of made ≡ step.start program.now.value rank ranks) }
     {
         let program = program.clone()?;
-        let running = started(alloc, program.functions.as_slice(), program.main)?;
+        let seat = Seat {
+            rank,
+            ranks,
+            any_source: program.any_source,
+        };
+        let running = started(alloc, program.functions.as_slice(), program.main, seat)?;
         Ok(Rank { program, running })
     }
 
@@ -55,6 +66,13 @@ impl Rank {
         self.running.begins(self.program.functions.as_slice())
     }
 
+    /// Whether an operation waits for its reply.
+    pub fn waits(&self) -> bool
+        ensures { result ≡ is_some (state_of self.now).asked }
+    {
+        self.running.requests.asked.is_some()
+    }
+
     /// One step. After an error or an end the rank is not used further.
     pub fn step(&mut self) -> Result<Step, NoMemory>
         requires { (state_of self.old).memory.next < 2 ^ 62 }
@@ -64,26 +82,29 @@ impl Rank {
         self.running.step(self.program.functions.as_slice())
     }
 
-    /// The reply to the operation that waits for one.
-    pub fn answer(&mut self, reply: Reply)
+    /// The reply to the operation that waits for one. Where its message is a fault, the rank ends.
+    pub fn answer(&mut self, reply: Reply) -> Option<End>
         ensures program { functions_of self.new ≡ functions_of self.old }
-        ensures answer { state_of self.new ≡ step.answered (state_of self.old) reply }
+        ensures answer { spec.answer_of result (state_of self.new) ≡ step.answered (state_of self.old) reply }
     {
-        match reply {
-            Reply::Done => self.running.requests.answer(),
-        }
+        self.running.answer(reply)
     }
 }
 
 // `main` is entered, where the stack has room for it.
-fn started(alloc: Global, functions: &[Function], main: usize) -> Result<Running, NoMemory>
-    ensures { IfOk result (λ run. (p : program.Program) → p.functions ≡ functions.now → p.main ≡ main → spec.state_of functions.now run ≡ step.start p) }
+fn started(
+    alloc: Global,
+    functions: &[Function],
+    main: usize,
+    seat: Seat,
+) -> Result<Running, NoMemory>
+    ensures { IfOk result (λ run. (p : program.Program) → (rank : ℕ) → (ranks : ℕ) → p.functions ≡ functions.now → p.main ≡ main → step.seat_of p rank ranks ≡ seat → spec.state_of functions.now run ≡ step.start p rank ranks) }
 {
     let mut running = Running {
         alloc,
         memory: Memory::new(alloc),
         frames: Vec::new(alloc),
-        requests: Requests::new(),
+        requests: Requests::new(seat),
     };
     let _ = running.push_call(functions, main)?;
     Ok(running)

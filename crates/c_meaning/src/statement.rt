@@ -1,6 +1,6 @@
 //! Statements that have begun.
 
-ghost use Rattle.std.specs.Prelude.{◌≡◌, ◌∷◌, ◌+◌, ◌≤◌, Some, IfOk, List};
+ghost use Rattle.std.specs.Prelude.{◌≡◌, ◌∷◌, ◌+◌, ◌≤◌, IfOk, List};
 ghost use Rattle.c_kernel.specs.declared.program.Stmt.{out-Stmt};
 ghost use Rattle.c_kernel.specs.declared.program.Stmt.TheOpen.{If};
 ghost use Rattle.c_meaning.specs.declared.level.Stage.TheVariants.{Between, Begun};
@@ -20,7 +20,7 @@ use crate::level::{Part, Stage, begun};
 use crate::levels::{continue_loop, leave_loop, push};
 use crate::number::number;
 use crate::print::text;
-use crate::requests::copy;
+use crate::requests::Request;
 use crate::running::{Running, Step, block, fault};
 use crate::value::{value, values};
 use c_kernel::program::{Arm, Expr, Function, Piece, Stmt};
@@ -83,7 +83,8 @@ impl Running {
                 self.print(frame, next, format.as_slice(), arguments.as_slice())
             }
             Stmt::Free(e) => self.free(frame, next, e),
-            Stmt::Mark => self.ask(frame, next, Op::Mark),
+            Stmt::Mpi(call) => self.call_mpi(frame, next, call),
+            Stmt::Mark => self.ask(frame, next, Request::plain(Op::Mark)),
         }
     }
 
@@ -176,18 +177,18 @@ impl Running {
         if self.requests.printed + text.as_slice().len() as u64 > 1_048_576 {
             return fault(109);
         }
-        self.ask(frame, next, Op::Output(text))
+        self.ask(frame, next, Request::plain(Op::Output(text)))
     }
 
-    // An operation, which waits for its reply.
-    fn ask(&mut self, mut frame: Frame, next: usize, op: Op) -> Result<Step, NoMemory>
-        requires { self.old.requests.printed + bytes_of (Some op) ≤ 1048576 }
-        ensures { IfOk result (λ did. (functions : List program.Function) → outcome_of did (state_of functions self.new) ≡ in_call asks functions self.old frame (standing functions frame next Between) op) }
+    /// An operation, which waits for its reply.
+    pub fn ask(&mut self, mut frame: Frame, next: usize, request: Request) -> Result<Step, NoMemory>
+        requires { self.old.requests.printed + bytes_of request.operation ≤ 1048576 }
+        ensures { IfOk result (λ did. (functions : List program.Function) → outcome_of did (state_of functions self.new) ≡ in_call asks functions self.old frame (standing functions frame next Between) request) }
     {
-        let asked = copy(&op)?;
+        let asked = request.operation.copy()?;
         push(&mut frame.levels, next, Stage::Between)?;
         self.frames.push(frame)?;
-        self.requests.ask(op);
+        self.requests.ask(request);
         Ok(Step::Wants(asked))
     }
 }

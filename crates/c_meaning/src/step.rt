@@ -11,7 +11,6 @@ use crate::frame::Frame;
 use crate::level::Stage;
 use crate::levels::push;
 use crate::number::number;
-use crate::requests::copy;
 use crate::running::{Running, Step, block, fault};
 use c_kernel::program::Function;
 use c3_base::NoMemory;
@@ -24,7 +23,7 @@ impl Running {
     {
         match &self.requests.asked {
             None => self.step_in(functions),
-            Some(op) => Ok(Step::Wants(copy(op)?)),
+            Some(request) => Ok(Step::Wants(request.operation.copy()?)),
         }
     }
 

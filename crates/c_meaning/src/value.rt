@@ -6,7 +6,7 @@ ghost use Rattle.c_meaning.specs.Value.{read_of, load_of, converted, compare_of,
 ghost use Rattle.c_meaning.specs.Value as spec;
 
 use crate::memory::Memory;
-use crate::number::{arithmetic, holds, literal, narrowed, number, shift, truth, unary};
+use crate::number::{arithmetic, holds, narrowed, number, shift, truth, unary};
 use crate::pointer::{advanced, compare_pointers, distance};
 use crate::spot::{NULL, Spot, moved};
 use c_kernel::IntegerType;
@@ -30,7 +30,7 @@ pub fn value(e: &Expr, variables: &Variables, memory: &Memory) -> Result<Cell, u
     ensures { result ≡ value_of e.now variables.now memory.now }
 {
     match e {
-        Expr::Number { value, kind } => Ok(number(literal(*kind, *value))),
+        Expr::Number { value, kind } => Ok(number(narrowed(*kind, *value))),
         Expr::Null => Ok(NULL),
         Expr::Load { place: p, kind } => load(memory, *kind, place(p, variables, memory)?),
         Expr::Address(p) => memory.pointing(place(p, variables, memory)?),

@@ -1,37 +1,42 @@
 -- The ranks of a job in the program.
-use Rattle.std.proofs.Common.{◌≡◌, ℕ, ◌+◌, ◌<◌, Bool, true, not, List, [], ◌∷◌, ◌++◌, length, map, replicate, get_or, Option, Some, None, is_some, is_none, refl, sym, ap, ◌∙◌, subst, arith}
-use Rattle.std.specs.Prelude.{All, slice_get, slice_set, option_map}
+use Rattle.std.proofs.Common.{◌≡◌, ℕ, ◌+◌, ◌<◌, ◌≤◌, Bool, true, false, List, [], ◌∷◌, ◌++◌, length, map, replicate, get_or, Option, Some, None, Result, Ok, Err, is_some, refl, sym, ap, ◌∙◌, subst, arith}
+use Rattle.std.specs.List.{range_with_len}
+use Rattle.std.specs.Prelude.{All, IfOk, slice_get, slice_set, option_map}
 use Rattle.std.proofs.Math.Logic.{∥∥₁_elim, ∥∥₁_map}
-use Rattle.std.proofs.lemmas.List.{length-map, map-append, map-set, replicate_more}
+use Rattle.std.proofs.lemmas.List.{length-map, length-replicate, map-append, map-set}
 use Rattle.std.proofs.lemmas.List.Elements.{All-push, All-set}
-use Rattle.std.proofs.lemmas.Option.{slice_get-map, slice_get_read}
+use Rattle.std.proofs.lemmas.List.FromFn.{length-map-range_with_len, map-range_with_len_more}
+use Rattle.std.proofs.lemmas.Option.{slice_get-map, slice_get_past, slice_get_read}
 use Rattle.std.specs.Coded.{Coded-set, coded_list}
 use Rattle.mpi_words.specs.declared.operation.End.{End}
+use Rattle.mpi_queues.specs.Pairs.{Queues, none_sent}
 use Rattle.c_kernel.specs.declared.program.Function.{Function}
 use Rattle.c_kernel.specs.contracts.program.Function as function
-use Rattle.plain_job.specs.declared.member.Member.{Member}
+use Rattle.c_kernel.specs.declared.program.Program.{Program}
 use Rattle.c_meaning.specs.State.{State}
 use Rattle.c_meaning.specs.Rank.{state_of}
-use Rattle.plain_job.specs.Job.{Runs, Ended, Rank, after, end_at, end_of}
-use Rattle.plain_job.specs.Turn.{Steps, turn_limit, IsTurn}
-use Rattle.plain_job.specs.Members.{rank_of, runs_of}
-use Rattle.plain_job.proofs.Runs.{ended_turn}
+use Rattle.plain_job.specs.Job.{Runs, Ended, Rank, Job, first}
+use Rattle.plain_job.specs.Turn.{absent, turn_limit, IsTurn, can_step, has_step}
+use Rattle.plain_job.specs.Members.{rank_of, runs_of, job_with}
+use Rattle.plain_job.specs.declared.member.Member.{Member}
+use Rattle.plain_job.proofs.Idle.{put_same, idle_rank, turn_idle}
 
 -- one more rank
 pub pushed_all : (functions : List Function) (ms after : List Member) (m : Member) → after ≡ ms ++ m ∷ [] → All (λ x. runs_of x ≡ functions) ms → runs_of m ≡ functions → All (λ x. runs_of x ≡ functions) after
 pushed_all functions ms after m e h r = subst (All (λ x. runs_of x ≡ functions)) (sym e) (All-push (λ x. runs_of x ≡ functions) ms m h r)
 
-pub pushed_ranks : (ms after : List Member) (m : Member) (n : ℕ) (r : Rank) → after ≡ ms ++ m ∷ [] → map rank_of ms ≡ replicate n r → rank_of m ≡ r → map rank_of after ≡ replicate (n + 1) r
-pushed_ranks ms after m n r e h q =
-    ap (map rank_of) e ∙ map-append rank_of ms (m ∷ []) ∙ ap (λ xs. xs ++ rank_of m ∷ []) h ∙ ap (λ x. replicate n r ++ x ∷ []) q ∙ replicate_more n r
+pub pushed_ranks : (p : Program) (n k : ℕ) (ms after : List Member) (m : Member) → after ≡ ms ++ m ∷ [] → map rank_of ms ≡ map (first p n) (range_with_len 0 k) → rank_of m ≡ first p n k → map rank_of after ≡ map (first p n) (range_with_len 0 (k + 1))
+pushed_ranks p n k ms after m e h q =
+    ap (map rank_of) e ∙ map-append rank_of ms (m ∷ []) ∙ ap (λ xs. xs ++ rank_of m ∷ []) h ∙ ap (λ x. map (first p n) (range_with_len 0 k) ++ x ∷ []) q ∙ sym (map-range_with_len_more (first p n) 0 k k (omega arith))
+
+-- so many ranks have as many receivers
+pub numbers_same : (p : Program) (n : ℕ) (ms : List Member) (queues : Queues) → map rank_of ms ≡ map (first p n) (range_with_len 0 n) → queues ≡ none_sent n → length queues ≡ length ms
+numbers_same p n ms queues h e = ap length e ∙ length-replicate n (replicate n []) ∙ sym (sym (length-map ms rank_of) ∙ ap length h ∙ length-map-range_with_len (first p n) 0 n)
 
 -- ---- the rank at a place
 
 abbrev pub IsAt : List Member → ℕ → Member → Type 0
 IsAt ms k m = (k < length ms) × (m ≡ get_or ms k m)
-
-pub is_at : (ms : List Member) (k n : ℕ) (m : Member) → k ≡ n → n < length (map rank_of ms) → m ≡ get_or ms k m → IsAt ms k m
-is_at ms k n m e h at = (omega (arith, length-map ms rank_of), at)
 
 abbrev pub AllRun : List Function → List Member → Type 0
 AllRun functions ms = ∥ All (λ x. runs_of x ≡ functions) ms ∥₁
@@ -45,28 +50,61 @@ run_with functions ms k m h e = ∥∥₁_map h (All-set (λ x. runs_of x ≡ fu
 pub stands_at : (ms : List Member) (k : ℕ) (m : Member) → IsAt ms k m → slice_get (map rank_of ms) k ≡ Some (rank_of m)
 stands_at ms k m at = slice_get-map rank_of ms k ∙ ap (option_map rank_of) (slice_get_read ms (length ms) k m refl at.0 at.1)
 
-end_standing : (end : Option End) (s : State) → end_of (elim end [ None ↦ Runs s | Some e ↦ Ended e ]) ≡ end
-end_standing None s = refl
-end_standing (Some e) s = refl
+-- ---- its turn
 
-pub end_stands : (ms : List Member) (k : ℕ) (m : Member) → IsAt ms k m → m.end ≡ end_at (map rank_of ms) k
-end_stands ms k m at = sym (ap (λ o. elim o [ None ↦ None | Some r ↦ end_of r.standing ]) (stands_at ms k m at) ∙ end_standing m.end (state_of m.rank))
+abbrev pub job_of_members : List Member → Queues → Job
+job_of_members ms queues = record { ranks = map rank_of ms; queues = queues }
 
--- ---- a turn of it
+same_job : (ms : List Member) (k : ℕ) (m : Member) (queues : Queues) → IsAt ms k m → job_with (map rank_of ms) k m queues ≡ job_of_members ms queues
+same_job ms k m queues at = ap (λ rs. record { ranks = rs; queues = queues }) (put_same (map rank_of ms) k (rank_of m) (stands_at ms k m at))
 
-none_by : (end : Option End) (b : Bool) → b ≡ is_some end → not b ≡ is_none end
-none_by None b h = ap not h
-none_by (Some e) b h = ap not h
+turn_at : (functions : List Function) (ms : List Member) (k : ℕ) (m next : Member) (queues new : Queues) → IsAt ms k m → runs_of m ≡ functions → ((ranks : List Rank) → k < length ranks → IsTurn (runs_of m) (job_with ranks k m queues) k (job_with ranks k next new)) → IsTurn functions (job_of_members ms queues) k (job_of_members (slice_set ms k next) new)
+turn_at functions ms k m next queues new at runs h =
+    let after : job_with (map rank_of ms) k next new ≡ job_of_members (slice_set ms k next) new = ap (λ rs. record { ranks = rs; queues = new }) (sym (map-set rank_of ms k next)) in
+    let turn : IsTurn functions (job_with (map rank_of ms) k m queues) k (job_with (map rank_of ms) k next new) = subst (λ f. IsTurn f (job_with (map rank_of ms) k m queues) k (job_with (map rank_of ms) k next new)) runs (h (map rank_of ms) (omega (arith, at.0, length-map ms rank_of))) in
+    subst (IsTurn functions (job_of_members ms queues) k) after (subst (λ j. IsTurn functions j k (job_with (map rank_of ms) k next new)) (same_job ms k m queues at) turn)
 
-pub effect_stands : (ms : List Member) (k : ℕ) (m : Member) (b : Bool) → IsAt ms k m → b ≡ is_some m.end → not b ≡ is_none (end_at (map rank_of ms) k)
-effect_stands ms k m b at h = none_by m.end b h ∙ ap is_none (end_stands ms k m at)
+pub turned : {E : Type 0} (functions : List Function) (ms : List Member) (k : ℕ) (m next : Member) (queues new : Queues) (result : Result Bool E) → IsAt ms k m → runs_of m ≡ functions → IfOk result (λ did. (ranks : List Rank) → k < length ranks → IsTurn (runs_of m) (job_with ranks k m queues) k (job_with ranks k next new)) → IfOk result (λ did. IsTurn functions (job_of_members ms queues) k (job_of_members (slice_set ms k next) new))
+turned functions ms k m next queues new (Ok did) at runs h = turn_at functions ms k m next queues new at runs h
+turned functions ms k m next queues new (Err e) at runs h = h
 
-ended_by : (functions : List Function) (n : ℕ) (r : Rank) (end : Option End) (s : State) → true ≡ is_some end → r.standing ≡ elim end [ None ↦ Runs s | Some e ↦ Ended e ] → Steps functions n r r
-ended_by functions n r None s h e = absurd cc
-ended_by functions n r (Some end) s h e = ended_turn functions n r end e
+has_at : (ms : List Member) (k : ℕ) (m : Member) (queues : Queues) → IsAt ms k m → has_step (job_of_members ms queues) k ≡ can_step (job_of_members ms queues) k (rank_of m).standing
+has_at ms k m queues at = ap (λ o. elim o [ None ↦ false | Some r ↦ can_step (job_of_members ms queues) k r.standing ]) (stands_at ms k m at)
 
-pub ended_steps : (functions : List Function) (n : ℕ) (m : Member) → true ≡ is_some m.end → Steps functions n (rank_of m) (rank_of m)
-ended_steps functions n m h = ended_by functions n (rank_of m) m.end (state_of m.rank) h refl
+pub turned_effect : {E : Type 0} (ms : List Member) (k : ℕ) (m : Member) (queues : Queues) (result : Result Bool E) → IsAt ms k m → IfOk result (λ did. (ranks : List Rank) → did ≡ can_step (job_with ranks k m queues) k (rank_of m).standing) → IfOk result (λ did. did ≡ has_step (job_of_members ms queues) k)
+turned_effect ms k m queues (Ok did) at h = h (map rank_of ms) ∙ ap (λ j. can_step j k (rank_of m).standing) (same_job ms k m queues at) ∙ sym (has_at ms k m queues at)
+turned_effect ms k m queues (Err e) at h = h
 
-pub turned : (functions : List Function) (ms : List Member) (k : ℕ) (m next : Member) → IsAt ms k m → Steps functions turn_limit (rank_of m) (rank_of next) → IsTurn functions (map rank_of ms) k (map rank_of (slice_set ms k next))
-turned functions ms k m next at s = record { rank = rank_of m; reached = rank_of next; stands = stands_at ms k m at; steps = s; leads = map-set rank_of ms k next }
+-- ---- a rank that has ended
+
+ended_by : (job : Job) (k : ℕ) (end : Option End) (s : State) → is_some end ≡ true → can_step job k (elim end [ None ↦ Runs s | Some e ↦ Ended e ]) ≡ false
+ended_by job k None s h = absurd cc
+ended_by job k (Some e) s h = refl
+
+-- it stands where it stood
+pub written_back : (ms : List Member) (k : ℕ) (m : Member) (queues : Queues) → IsAt ms k m → job_of_members (slice_set ms k m) queues ≡ job_of_members ms queues
+written_back ms k m queues at = ap (λ rs. record { ranks = rs; queues = queues }) (map-set rank_of ms k m ∙ put_same (map rank_of ms) k (rank_of m) (stands_at ms k m at))
+
+pub ended_turn : (functions : List Function) (ms : List Member) (k : ℕ) (m : Member) (queues : Queues) → IsAt ms k m → is_some m.end ≡ true → IsTurn functions (job_of_members ms queues) k (job_of_members (slice_set ms k m) queues)
+ended_turn functions ms k m queues at h =
+    subst (IsTurn functions (job_of_members ms queues) k) (sym (written_back ms k m queues at)) (idle_rank functions turn_limit (job_of_members ms queues) k (rank_of m) (stands_at ms k m at) (ended_by (job_of_members ms queues) k m.end (state_of m.rank) h))
+
+pub ended_effect : (ms : List Member) (k : ℕ) (m : Member) (queues : Queues) → IsAt ms k m → is_some m.end ≡ true → false ≡ has_step (job_of_members ms queues) k
+ended_effect ms k m queues at h = sym (has_at ms k m queues at ∙ ended_by (job_of_members ms queues) k m.end (state_of m.rank) h)
+
+-- ---- a rank that is none
+
+past : (ms : List Member) (k : ℕ) → length ms ≤ k → slice_get (map rank_of ms) k ≡ None
+past ms k h = slice_get_past (map rank_of ms) k (omega (arith, h, length-map ms rank_of))
+
+pub absent_turn : (functions : List Function) (ms : List Member) (k : ℕ) (queues : Queues) → length ms ≤ k → IsTurn functions (job_of_members ms queues) k (job_of_members ms queues)
+absent_turn functions ms k queues h = absent turn_limit (job_of_members ms queues) (past ms k h)
+
+pub absent_effect : (ms : List Member) (k : ℕ) (queues : Queues) → length ms ≤ k → false ≡ has_step (job_of_members ms queues) k
+absent_effect ms k queues h = sym (ap (λ o. elim o [ None ↦ false | Some r ↦ can_step (job_of_members ms queues) k r.standing ]) (past ms k h))
+
+-- ---- a turn without a step to make
+
+pub idle_same : {E : Type 0} (functions : List Function) (job : Job) (k : ℕ) (after : Job) (result : Result Bool E) → IfOk result (λ did. IsTurn functions job k after) → IfOk result (λ did. did ≡ has_step job k) → IfOk result (λ did. did ≡ false → after ≡ job)
+idle_same functions job k after (Ok did) h e = λ no. turn_idle functions job k after (sym e ∙ no) h
+idle_same functions job k after (Err error) h e = h

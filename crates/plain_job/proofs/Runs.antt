@@ -1,84 +1,81 @@
 -- Turns of the plain job are runs of it, and lead to one job each.
-use Rattle.std.proofs.Common.{◌≡◌, ℕ, zero, suc, Bool, true, false, List, [], ◌∷◌, ◌++◌, map, Some, None, refl, sym, ap, ◌∙◌, subst, arith}
-use Rattle.std.specs.Prelude.{slice_get, slice_set}
-use Rattle.mpi_words.specs.declared.operation.End.{End}
+use Rattle.std.proofs.Common.{◌≡◌, ℕ, ◌<◌, suc, Bool, true, false, List, [], ◌∷◌, ◌++◌, length, Option, Some, None, refl, sym, ap, ◌∙◌, subst, arith}
+use Rattle.std.specs.Prelude.{slice_get}
+use Rattle.mpi_words.specs.declared.operation.Op.{Op}
+use Rattle.mpi_words.specs.declared.operation.Op.TheVariants as op
+use Rattle.mpi_words.specs.declared.pattern.Pattern.{Pattern}
+use Rattle.mpi_queues.specs.Pairs.{Queues, Received, taken_from, taken}
+use Rattle.mpi_queues.specs.Laws.{TakesLowest}
+use Rattle.mpi_queues.proofs.Lowest.{is_lowest}
 use Rattle.c_kernel.specs.declared.program.Function.{Function}
 use Rattle.c_kernel.specs.declared.program.Program.{Program}
 use Rattle.c_meaning.specs.Memory.{is_full}
-use Rattle.c_meaning.proofs.Choices.{always, one_choice}
-use Rattle.plain_job.specs.Job.{Standing, Runs, Ended, Rank, Job, Move, after, outcome, moved, start_job, move, run, IsReached, end_of, end_at}
-use Rattle.plain_job.specs.Turn.{begins_next, is_last, Steps, pauses, begins_one, goes, stops, turn_limit, IsTurn, AreTurns}
+use Rattle.c_meaning.specs.State.{State, Outcome, Goes, Asks, Ends}
+use Rattle.c_meaning.proofs.Choices.{one_choice}
+use Rattle.plain_job.specs.Job.{Standing, Runs, Ended, Rank, Job, Move, choice_of, outcome, receives, operates, after, stepped, start_job, move, run, IsReached}
+use Rattle.plain_job.specs.Turn.{lowest, begins_next, is_last, Steps, absent, pauses, begins_one, goes, stops, turn_limit, IsTurn, AreTurns}
 
--- ---- moves of one rank
+-- ---- a step of a turn is a move
 
--- by the choices in them
-pub moves : List Function → Rank → List Bool → Rank
-moves functions r [] = r
-moves functions r (b ∷ bs) = moves functions (moved functions (always b) r) bs
+standing_choice : (functions : List Function) (k source : ℕ) (x : Standing) → (b : Bool) × (outcome functions lowest x ≡ outcome functions (choice_of (record { rank = k; refuses = b; source = source })) x)
+standing_choice functions k source (Runs s) = one_choice functions is_full s
+standing_choice functions k source (Ended e) = (false, refl)
 
-standing_choice : (functions : List Function) (x : Standing) → (b : Bool) × (outcome functions is_full x ≡ outcome functions (always b) x)
-standing_choice functions (Runs s) = one_choice functions is_full s
-standing_choice functions (Ended e) = (false, refl)
+first_gives_none : (queues : Queues) (k : ℕ) (p : Pattern) → ((from : ℕ) → from < length queues → taken_from queues k p from ≡ None) → taken_from queues k p 0 ≡ None
+first_gives_none [] k p h = refl
+first_gives_none (row ∷ rows) k p h = h 0 (omega arith)
 
--- one more move before others
-one_more : (functions : List Function) (r t : Rank) → (bs : List Bool) × (moves functions (moved functions is_full r) bs ≡ t) → (bs : List Bool) × (moves functions r bs ≡ t)
-unfolding moves
-one_more functions r t h =
-    let c = standing_choice functions r.standing in
-    (c.0 ∷ h.0, ap (λ o. moves functions (after r o) h.0) (sym c.1) ∙ h.1)
+source_by : (queues : Queues) (k : ℕ) (p : Pattern) (o : Option Received) → TakesLowest queues k p o → (source : ℕ) × (o ≡ taken_from queues k p source)
+source_by queues k p None h = (0, sym (first_gives_none queues k p h))
+source_by queues k p (Some x) h = (x.source, sym h.1)
 
--- steps of a rank are moves of it
-pub steps_move : (functions : List Function) (n : ℕ) (r t : Rank) → Steps functions n r t → (bs : List Bool) × (moves functions r bs ≡ t)
-unfolding moves
-steps_move functions n r _ (pauses _ _ e b) = ([], refl)
-steps_move functions n r t (begins_one _ m _ _ e b rest) = one_more functions r t (steps_move functions m (moved functions is_full r) t rest)
-steps_move functions n r t (goes _ _ _ b l rest) = one_more functions r t (steps_move functions n (moved functions is_full r) t rest)
-steps_move functions n r _ (stops _ _ b l) = one_more functions r (moved functions is_full r) ([], refl)
+-- what is taken comes from one source's list; where nothing is, no source gives anything
+source_of : (queues : Queues) (k : ℕ) (p : Pattern) → (source : ℕ) × (taken queues k p ≡ taken_from queues k p source)
+source_of queues k p = source_by queues k p (taken queues k p) (is_lowest queues k p)
 
--- ---- runs
+operation_choice : (job : Job) (k : ℕ) (r : Rank) (b : Bool) (o : Op) (s : State) → (source : ℕ) × (operates lowest job k r o s ≡ operates (choice_of (record { rank = k; refuses = b; source = source })) job k r o s)
+operation_choice job k r b (op.Send to message) s = (0, refl)
+operation_choice job k r b (op.Receive []) s = (0, refl)
+operation_choice job k r b (op.Receive (p ∷ ps)) s =
+    let from = source_of job.queues k p in
+    (from.0, ap (receives job k r (op.Receive (p ∷ ps)) s) from.1)
+operation_choice job k r b (op.Output text) s = (0, refl)
+operation_choice job k r b op.Mark s = (0, refl)
 
-abbrev pub move_of : ℕ → Bool → Move
-move_of k b = record { rank = k; refuses = b }
+outcome_choice : (job : Job) (k : ℕ) (r : Rank) (b : Bool) (o : Outcome) → (source : ℕ) × (after lowest job k r o ≡ after (choice_of (record { rank = k; refuses = b; source = source })) job k r o)
+outcome_choice job k r b (Goes began s) = (0, refl)
+outcome_choice job k r b (Asks o s) = operation_choice job k r b o s
+outcome_choice job k r b (Ends e) = (0, refl)
+
+step_moves : (functions : List Function) (job : Job) (k : ℕ) (r : Rank) → slice_get job.ranks k ≡ Some r → (a : Move) × (move functions job a ≡ stepped functions lowest job k r)
+step_moves functions job k r h =
+    let c = standing_choice functions k 0 r.standing in
+    let d = outcome_choice job k r c.0 (outcome functions lowest r.standing) in
+    let a : Move = record { rank = k; refuses = c.0; source = d.0 } in
+    (a, ap (λ o. elim o [ None ↦ job | Some x ↦ stepped functions (choice_of a) job k x ]) h ∙ sym (d.1 ∙ ap (after (choice_of a) job k r) c.1))
+
+-- ---- turns are runs
+
+-- one step before a run
+one_more : (functions : List Function) (job : Job) (k : ℕ) (r : Rank) (last : Job) → slice_get job.ranks k ≡ Some r → (moves : List Move) × (run functions (stepped functions lowest job k r) moves ≡ last) → (moves : List Move) × (run functions job moves ≡ last)
+one_more functions job k r last h rest =
+    let m = step_moves functions job k r h in
+    (m.0 ∷ rest.0, ap (λ j. run functions j rest.0) m.1 ∙ rest.1)
+
+steps_run : (functions : List Function) (k n : ℕ) (job last : Job) → Steps functions k n job last → (moves : List Move) × (run functions job moves ≡ last)
+steps_run functions k n job _ (absent _ _ h) = ([], refl)
+steps_run functions k n job _ (pauses _ _ r h e b) = ([], refl)
+steps_run functions k n job last (begins_one _ m _ _ r h e b rest) = one_more functions job k r last h (steps_run functions k m (stepped functions lowest job k r) last rest)
+steps_run functions k n job last (goes _ _ _ r h b l rest) = one_more functions job k r last h (steps_run functions k n (stepped functions lowest job k r) last rest)
+steps_run functions k n job _ (stops _ _ r h b l) = one_more functions job k r (stepped functions lowest job k r) h ([], refl)
+
+pub turn_runs : (functions : List Function) (job : Job) (k : ℕ) (after : Job) → IsTurn functions job k after → (moves : List Move) × (run functions job moves ≡ after)
+turn_runs functions job k after h = steps_run functions k turn_limit job after h
 
 pub run_on : (functions : List Function) (job : Job) (ks ls : List Move) → run functions job (ks ++ ls) ≡ run functions (run functions job ks) ls
 run_on functions job [] ls = refl
 run_on functions job (k ∷ ks) ls = run_on functions (move functions job k) ks ls
 
-get_put : (job : Job) (k : ℕ) (r t : Rank) → slice_get job k ≡ Some r → slice_get (slice_set job k t) k ≡ Some t
-get_put [] k r t h = absurd cc
-get_put (x ∷ job) zero r t h = refl
-get_put (x ∷ job) (suc k) r t h = get_put job k r t h
-
-put_put : (job : Job) (k : ℕ) (t u : Rank) → slice_set (slice_set job k t) k u ≡ slice_set job k u
-put_put [] k t u = refl
-put_put (x ∷ job) zero t u = refl
-put_put (x ∷ job) (suc k) t u = ap (λ rest. x ∷ rest) (put_put job k t u)
-
-put_same : (job : Job) (k : ℕ) (r : Rank) → slice_get job k ≡ Some r → slice_set job k r ≡ job
-put_same [] k r h = refl
-put_same (x ∷ job) zero r h = let e : x ≡ r = cc in ap (λ y. y ∷ job) (sym e)
-put_same (x ∷ job) (suc k) r h = ap (λ rest. x ∷ rest) (put_same job k r h)
-
-move_at : (functions : List Function) (job : Job) (k : ℕ) (b : Bool) (r : Rank) → slice_get job k ≡ Some r → move functions job (move_of k b) ≡ slice_set job k (moved functions (always b) r)
-move_at functions job k b r h = ap (λ o. elim o [ None ↦ job | Some x ↦ slice_set job k (moved functions (always b) x) ]) h
-
--- moves of a rank are a run of the job
-moves_run : (functions : List Function) (job : Job) (k : ℕ) (r : Rank) (bs : List Bool) → slice_get job k ≡ Some r → run functions job (map (move_of k) bs) ≡ slice_set job k (moves functions r bs)
-unfolding moves
-moves_run functions job k r [] h = sym (put_same job k r h)
-moves_run functions job k r (b ∷ bs) h =
-    let next = moved functions (always b) r in
-    let e = move_at functions job k b r h in
-    let after = moves_run functions (slice_set job k next) k next bs (get_put job k r next h) in
-    ap (λ j. run functions j (map (move_of k) bs)) e ∙ after ∙ put_put job k next (moves functions next bs)
-
--- a turn is a run
-pub turn_runs : (functions : List Function) (job : Job) (k : ℕ) (after : Job) → IsTurn functions job k after → (moves : List Move) × (run functions job moves ≡ after)
-turn_runs functions job k after h =
-    let m = steps_move functions turn_limit h.rank h.reached h.steps in
-    (map (move_of k) m.0, moves_run functions job k h.rank m.0 h.stands ∙ ap (slice_set job k) m.1 ∙ sym h.leads)
-
--- so are turns
 pub turns_run : (functions : List Function) (job : Job) (schedule : List ℕ) (after : Job) → AreTurns functions job schedule after → (moves : List Move) × (run functions job moves ≡ after)
 turns_run functions job [] after h = ([], sym h)
 turns_run functions job (k ∷ schedule) after h =
@@ -93,49 +90,71 @@ turns_reach p n schedule job h =
 
 -- ---- turns lead to one job
 
-abbrev Same : List Function → ℕ → Rank → Rank → Type 0
-Same functions n r t = (m : ℕ) (u : Rank) → m ≡ n → Steps functions m r u → t ≡ u
+one_rank : (job : Job) (k : ℕ) (r t : Rank) → slice_get job.ranks k ≡ Some r → slice_get job.ranks k ≡ Some t → r ≡ t
+one_rank job k r t g h = cc
 
-same_pause : (functions : List Function) (n : ℕ) (r : Rank) → n ≡ 0 → begins_next r.standing ≡ true → Same functions n r r
-same_pause functions n r e b m _ same (pauses _ _ z c) = refl
-same_pause functions n r e b m u same (begins_one _ k _ _ f c rest) = absurd (omega arith)
-same_pause functions n r e b m u same (goes _ _ _ c l rest) = absurd cc
-same_pause functions n r e b m _ same (stops _ _ c l) = absurd cc
+begins_as : (job : Job) (k : ℕ) (r t : Rank) (b c : Bool) → slice_get job.ranks k ≡ Some r → slice_get job.ranks k ≡ Some t → begins_next r.standing ≡ b → begins_next t.standing ≡ c → b ≡ c
+begins_as job k r t b c g h e f = sym e ∙ ap (λ (x : Rank). begins_next x.standing) (one_rank job k r t g h) ∙ f
 
-same_begin : (functions : List Function) (n k : ℕ) (r t : Rank) → n ≡ suc k → begins_next r.standing ≡ true → Same functions k (moved functions is_full r) t → Same functions n r t
-same_begin functions n k r t e b rec m _ same (pauses _ _ z c) = absurd (omega arith)
-same_begin functions n k r t e b rec m u same (begins_one _ j _ _ f c rest) = rec j u (omega arith) rest
-same_begin functions n k r t e b rec m u same (goes _ _ _ c l rest) = absurd cc
-same_begin functions n k r t e b rec m _ same (stops _ _ c l) = absurd cc
+last_as : (functions : List Function) (job : Job) (k : ℕ) (r t : Rank) (b c : Bool) → slice_get job.ranks k ≡ Some r → slice_get job.ranks k ≡ Some t → is_last (outcome functions lowest r.standing) ≡ b → is_last (outcome functions lowest t.standing) ≡ c → b ≡ c
+last_as functions job k r t b c g h e f = sym e ∙ ap (λ (x : Rank). is_last (outcome functions lowest x.standing)) (one_rank job k r t g h) ∙ f
 
-same_go : (functions : List Function) (n : ℕ) (r t : Rank) → begins_next r.standing ≡ false → is_last (outcome functions is_full r.standing) ≡ false → Same functions n (moved functions is_full r) t → Same functions n r t
-same_go functions n r t b l rec m _ same (pauses _ _ z c) = absurd cc
-same_go functions n r t b l rec m u same (begins_one _ j _ _ f c rest) = absurd cc
-same_go functions n r t b l rec m u same (goes _ _ _ c k rest) = rec m u same rest
-same_go functions n r t b l rec m _ same (stops _ _ c k) = absurd cc
+abbrev Same : List Function → ℕ → ℕ → Job → Job → Type 0
+Same functions k n job last = (m : ℕ) (other : Job) → m ≡ n → Steps functions k m job other → last ≡ other
 
-same_stop : (functions : List Function) (n : ℕ) (r : Rank) → begins_next r.standing ≡ false → is_last (outcome functions is_full r.standing) ≡ true → Same functions n r (moved functions is_full r)
-same_stop functions n r b l m _ same (pauses _ _ z c) = absurd cc
-same_stop functions n r b l m u same (begins_one _ j _ _ f c rest) = absurd cc
-same_stop functions n r b l m u same (goes _ _ _ c k rest) = absurd cc
-same_stop functions n r b l m _ same (stops _ _ c k) = refl
+-- the steps after one step
+rest_same : (functions : List Function) (k n : ℕ) (job last other : Job) (r t : Rank) → slice_get job.ranks k ≡ Some r → slice_get job.ranks k ≡ Some t → Same functions k n (stepped functions lowest job k r) last → (m : ℕ) → m ≡ n → Steps functions k m (stepped functions lowest job k t) other → last ≡ other
+rest_same functions k n job last other r t g h rec m e rest = rec m other e (subst (λ x. Steps functions k m (stepped functions lowest job k x) other) (one_rank job k t r h g) rest)
 
-same_steps : (functions : List Function) (n : ℕ) (r t : Rank) → Steps functions n r t → Same functions n r t
-same_steps functions n r _ (pauses _ _ e b) = same_pause functions n r e b
-same_steps functions n r t (begins_one _ k _ _ e b rest) = same_begin functions n k r t e b (same_steps functions k (moved functions is_full r) t rest)
-same_steps functions n r t (goes _ _ _ b l rest) = same_go functions n r t b l (same_steps functions n (moved functions is_full r) t rest)
-same_steps functions n r _ (stops _ _ b l) = same_stop functions n r b l
+same_absent : (functions : List Function) (k n : ℕ) (job : Job) → slice_get job.ranks k ≡ None → Same functions k n job job
+same_absent functions k n job g m _ same (absent _ _ h) = refl
+same_absent functions k n job g m _ same (pauses _ _ t h z c) = absurd cc
+same_absent functions k n job g m other same (begins_one _ j _ _ t h f c rest) = absurd cc
+same_absent functions k n job g m other same (goes _ _ _ t h c l rest) = absurd cc
+same_absent functions k n job g m _ same (stops _ _ t h c l) = absurd cc
 
--- steps of a turn lead to one rank
-pub steps_same : (functions : List Function) (n : ℕ) (r t u : Rank) → Steps functions n r t → Steps functions n r u → t ≡ u
-steps_same functions n r t u g h = same_steps functions n r t g n u refl h
+same_pause : (functions : List Function) (k n : ℕ) (job : Job) (r : Rank) → slice_get job.ranks k ≡ Some r → n ≡ 0 → begins_next r.standing ≡ true → Same functions k n job job
+same_pause functions k n job r g e b m _ same (absent _ _ h) = refl
+same_pause functions k n job r g e b m _ same (pauses _ _ t h z c) = refl
+same_pause functions k n job r g e b m other same (begins_one _ j _ _ t h f c rest) = absurd (omega (arith, e, f, same))
+same_pause functions k n job r g e b m other same (goes _ _ _ t h c l rest) = let no : true ≡ false = begins_as job k r t true false g h b c in absurd cc
+same_pause functions k n job r g e b m _ same (stops _ _ t h c l) = let no : true ≡ false = begins_as job k r t true false g h b c in absurd cc
 
--- a turn leads to one job
+same_begin : (functions : List Function) (k n j : ℕ) (job last : Job) (r : Rank) → slice_get job.ranks k ≡ Some r → n ≡ suc j → begins_next r.standing ≡ true → Same functions k j (stepped functions lowest job k r) last → Same functions k n job last
+same_begin functions k n j job last r g e b rec m _ same (absent _ _ h) = absurd cc
+same_begin functions k n j job last r g e b rec m _ same (pauses _ _ t h z c) = absurd (omega (arith, e, z, same))
+same_begin functions k n j job last r g e b rec m other same (begins_one _ i _ _ t h f c rest) = rest_same functions k j job last other r t g h rec i (omega (arith, e, f, same)) rest
+same_begin functions k n j job last r g e b rec m other same (goes _ _ _ t h c l rest) = let no : true ≡ false = begins_as job k r t true false g h b c in absurd cc
+same_begin functions k n j job last r g e b rec m _ same (stops _ _ t h c l) = let no : true ≡ false = begins_as job k r t true false g h b c in absurd cc
+
+same_go : (functions : List Function) (k n : ℕ) (job last : Job) (r : Rank) → slice_get job.ranks k ≡ Some r → begins_next r.standing ≡ false → is_last (outcome functions lowest r.standing) ≡ false → Same functions k n (stepped functions lowest job k r) last → Same functions k n job last
+same_go functions k n job last r g b l rec m _ same (absent _ _ h) = absurd cc
+same_go functions k n job last r g b l rec m _ same (pauses _ _ t h z c) = let no : false ≡ true = begins_as job k r t false true g h b c in absurd cc
+same_go functions k n job last r g b l rec m other same (begins_one _ i _ _ t h f c rest) = let no : false ≡ true = begins_as job k r t false true g h b c in absurd cc
+same_go functions k n job last r g b l rec m other same (goes _ _ _ t h c i rest) = rest_same functions k n job last other r t g h rec m same rest
+same_go functions k n job last r g b l rec m _ same (stops _ _ t h c i) = let no : false ≡ true = last_as functions job k r t false true g h l i in absurd cc
+
+same_stop : (functions : List Function) (k n : ℕ) (job : Job) (r : Rank) → slice_get job.ranks k ≡ Some r → begins_next r.standing ≡ false → is_last (outcome functions lowest r.standing) ≡ true → Same functions k n job (stepped functions lowest job k r)
+same_stop functions k n job r g b l m _ same (absent _ _ h) = absurd cc
+same_stop functions k n job r g b l m _ same (pauses _ _ t h z c) = let no : false ≡ true = begins_as job k r t false true g h b c in absurd cc
+same_stop functions k n job r g b l m other same (begins_one _ i _ _ t h f c rest) = let no : false ≡ true = begins_as job k r t false true g h b c in absurd cc
+same_stop functions k n job r g b l m other same (goes _ _ _ t h c i rest) = let no : true ≡ false = last_as functions job k r t true false g h l i in absurd cc
+same_stop functions k n job r g b l m _ same (stops _ _ t h c i) = ap (stepped functions lowest job k) (one_rank job k r t g h)
+
+same_steps : (functions : List Function) (k n : ℕ) (job last : Job) → Steps functions k n job last → Same functions k n job last
+same_steps functions k n job _ (absent _ _ h) = same_absent functions k n job h
+same_steps functions k n job _ (pauses _ _ r h e b) = same_pause functions k n job r h e b
+same_steps functions k n job last (begins_one _ j _ _ r h e b rest) = same_begin functions k n j job last r h e b (same_steps functions k j (stepped functions lowest job k r) last rest)
+same_steps functions k n job last (goes _ _ _ r h b l rest) = same_go functions k n job last r h b l (same_steps functions k n (stepped functions lowest job k r) last rest)
+same_steps functions k n job _ (stops _ _ r h b l) = same_stop functions k n job r h b l
+
+-- steps of a turn lead to one job
+pub steps_same : (functions : List Function) (k n : ℕ) (job last other : Job) → Steps functions k n job last → Steps functions k n job other → last ≡ other
+steps_same functions k n job last other g h = same_steps functions k n job last g n other refl h
+
+-- so does a turn
 pub turn_same : (functions : List Function) (job : Job) (k : ℕ) (after other : Job) → IsTurn functions job k after → IsTurn functions job k other → after ≡ other
-turn_same functions job k after other g h =
-    let r : g.rank ≡ h.rank = cc (g.stands, h.stands) in
-    let t : g.reached ≡ h.reached = steps_same functions turn_limit h.rank g.reached h.reached (subst (λ x. Steps functions turn_limit x g.reached) r g.steps) h.steps in
-    g.leads ∙ ap (slice_set job k) t ∙ sym h.leads
+turn_same functions job k after other g h = steps_same functions k turn_limit job after other g h
 
 -- so do turns
 pub turns_same : (functions : List Function) (job : Job) (schedule : List ℕ) (after other : Job) → AreTurns functions job schedule after → AreTurns functions job schedule other → after ≡ other
@@ -143,24 +162,3 @@ turns_same functions job [] after other g h = g ∙ sym h
 turns_same functions job (k ∷ schedule) after other g h =
     let mid : g.0 ≡ h.0 = turn_same functions job k g.0 h.0 g.1 h.1 in
     turns_same functions h.0 schedule after other (subst (λ j. AreTurns functions j schedule after) mid g.2) h.2
-
--- ---- a rank that has ended
-
-ended_stays : (functions : List Function) (r : Rank) (e : End) → r.standing ≡ Ended e → moved functions is_full r ≡ r
-ended_stays functions r e h = ap (λ x. after r (outcome functions is_full x)) h ∙ ap (λ x. record r { standing = x }) (sym h)
-
-pub ended_turn : (functions : List Function) (n : ℕ) (r : Rank) (e : End) → r.standing ≡ Ended e → Steps functions n r r
-ended_turn functions n r e h = subst (Steps functions n r) (ended_stays functions r e h) (stops n r (ap begins_next h) (ap (λ x. is_last (outcome functions is_full x)) h))
-
-ended_same : (functions : List Function) (n : ℕ) (r t : Rank) (x : Standing) (e : End) → r.standing ≡ x → end_of x ≡ Some e → Steps functions n r t → t ≡ r
-ended_same functions n r t (Runs s) e h i g = absurd cc
-ended_same functions n r t (Ended end) e h i g = steps_same functions n r t r g (ended_turn functions n r end h)
-
-end_at_rank : (job : Job) (k : ℕ) (r : Rank) → slice_get job k ≡ Some r → end_at job k ≡ end_of r.standing
-end_at_rank job k r h = ap (λ o. elim o [ None ↦ None | Some x ↦ end_of x.standing ]) h
-
--- a turn of it changes nothing
-pub turn_idle : (functions : List Function) (job : Job) (k : ℕ) (after : Job) (e : End) → end_at job k ≡ Some e → IsTurn functions job k after → after ≡ job
-turn_idle functions job k after e h g =
-    let t : g.reached ≡ g.rank = ended_same functions turn_limit g.rank g.reached g.rank.standing e refl (sym (end_at_rank job k g.rank g.stands) ∙ h) g.steps in
-    g.leads ∙ ap (slice_set job k) t ∙ put_same job k g.rank g.stands

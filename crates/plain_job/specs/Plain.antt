@@ -8,5 +8,5 @@ use Rattle.plain_job.specs.declared.job.PlainJob.{PlainJob}
 abbrev pub functions_of : PlainJob → List Function
 functions_of job = job.program.value.functions
 
-abbrev pub ranks_of : PlainJob → Job
-ranks_of job = map rank_of job.members.items
+abbrev pub job_of : PlainJob → Job
+job_of job = record { ranks = map rank_of job.members.items; queues = job.channels }

@@ -1,18 +1,17 @@
 //! A rank of a job.
 
-ghost use Rattle.std.specs.Prelude.{◌≡◌, ◌<◌, ◌^◌, ◌++◌, suc, false, IfOk, None};
-ghost use Rattle.mpi_words.specs.declared.operation.Reply.TheVariants.{Done};
-ghost use Rattle.c_meaning.specs.Memory.{is_full};
-ghost use Rattle.c_meaning.specs.Rank.{state_of};
-ghost use Rattle.c_meaning.specs.Step.{answered};
-ghost use Rattle.plain_job.specs.Job.{first, moved, outcome, text_of};
-ghost use Rattle.plain_job.specs.Members.{rank_of, runs_of};
-ghost use Rattle.plain_job.specs.Turn.{is_last};
+ghost use Rattle.std.specs.Prelude.{◌≡◌, ◌<◌, length, IfOk, None, List};
+ghost use Rattle.plain_job.specs.Job as spec;
+ghost use Rattle.plain_job.specs.Job.{first, outcome, stepped};
+ghost use Rattle.plain_job.specs.Members.{rank_of, runs_of, job_with, progress, ends, had_step};
+ghost use Rattle.plain_job.specs.Turn.{lowest};
+ghost use Rattle.plain_job.specs.declared.member.Progress.TheVariants as variant;
 
 use c_kernel::program::Program;
 use c_meaning::{Rank, Step};
 use c3_base::NoMemory;
-use mpi_words::{End, Op, Reply};
+use mpi_queues::Channels;
+use mpi_words::End;
 use std::alloc::Global;
 use std::rc::Rc;
 
@@ -25,13 +24,51 @@ pub struct Member {
     pub end: Option<End>,
 }
 
-impl Member {
-    /// A rank that begins the program.
-    pub fn new(alloc: Global, program: &Rc<Program>) -> Result<Member, NoMemory>
-        ensures functions { IfOk result (λ member. runs_of member ≡ program.now.value.functions) }
-        ensures start { IfOk result (λ member. rank_of member ≡ first program.now.value) }
+/// What a step came to.
+#[derive(Clone, Copy, Debug)]
+pub enum Progress {
+    /// No operation was asked for.
+    Went,
+    /// The operation isn't possible yet.
+    Waits,
+    /// The operation was completed, or the rank has ended.
+    Stopped,
+}
+
+impl Progress {
+    /// Whether it ends a turn.
+    pub fn ends(self) -> bool
+        ensures { result ≡ ends self }
     {
-        let rank = Rank::new(alloc, program)?;
+        match self {
+            Progress::Went => false,
+            Progress::Waits | Progress::Stopped => true,
+        }
+    }
+
+    /// Whether there was a step to make.
+    pub fn had_step(self) -> bool
+        ensures { result ≡ had_step self }
+    {
+        match self {
+            Progress::Waits => false,
+            Progress::Went | Progress::Stopped => true,
+        }
+    }
+}
+
+impl Member {
+    /// A rank that begins the program, one of so many.
+    pub fn new(
+        alloc: Global,
+        program: &Rc<Program>,
+        rank: u16,
+        ranks: u16,
+    ) -> Result<Member, NoMemory>
+        ensures functions { IfOk result (λ member. runs_of member ≡ program.now.value.functions) }
+        ensures start { IfOk result (λ member. rank_of member ≡ first program.now.value ranks rank) }
+    {
+        let rank = Rank::new(alloc, program, rank, ranks)?;
         Ok(Member {
             rank,
             output: Vec::new(alloc),
@@ -40,55 +77,26 @@ impl Member {
         })
     }
 
-    /// One step of a rank that hasn't ended. Says whether it is the last of a turn.
-    pub fn step(&mut self) -> Result<bool, NoMemory>
+    /// One step of a rank that hasn't ended, the `me`-th.
+    pub fn step(&mut self, me: u16, channels: &mut Channels) -> Result<Progress, NoMemory>
         requires runs { self.old.end ≡ None }
-        requires room { (state_of self.old.rank).memory.next < 2 ^ 62 }
+        requires rank { me < length channels.old }
         ensures functions { runs_of self.new ≡ runs_of self.old }
-        ensures step { IfOk result (λ last. rank_of self.new ≡ moved (runs_of self.old) is_full (rank_of self.old)) }
-        ensures last { IfOk result (λ last. last ≡ is_last (outcome (runs_of self.old) is_full (rank_of self.old).standing)) }
-        ensures runs { IfOk result (λ last. last ≡ false → self.new.end ≡ None) }
+        ensures ranks { length channels.new ≡ length channels.old }
+        ensures step { IfOk result (λ did. (ranks : List spec.Rank) → stepped (runs_of self.old) lowest (record { ranks = ranks; queues = channels.old }) me (rank_of self.old) ≡ job_with ranks me self.new channels.new) }
+        ensures progress { IfOk result (λ did. (ranks : List spec.Rank) → did ≡ progress (record { ranks = ranks; queues = channels.old }) me (outcome (runs_of self.old) lowest (rank_of self.old).standing)) }
+        ensures runs { IfOk result (λ did. did ≡ variant.Went → self.new.end ≡ None) }
     {
-        match self.rank.step()? {
-            Step::Local { began: _ } => Ok(false),
-            Step::Wants(op) => {
-                self.complete(&op)?;
-                Ok(true)
-            }
-            Step::Ended(end) => {
-                self.end = Some(end);
-                Ok(true)
-            }
-        }
-    }
-
-    // The operation that the rank waits for is done.
-    fn complete(&mut self, op: &Op) -> Result<(), NoMemory>
-        ensures functions { runs_of self.new ≡ runs_of self.old }
-        ensures answer { state_of self.new.rank ≡ answered (state_of self.old.rank) Done }
-        ensures output { IfOk result (λ done. self.new.output.items ≡ self.old.output.items ++ text_of op.now) }
-        ensures ops { IfOk result (λ done. self.new.ops ≡ suc self.old.ops) }
-        ensures end { self.new.end ≡ self.old.end }
-    {
-        self.rank.answer(Reply::Done);
-        print(&mut self.output, op)?;
-        if self.ops == u64::MAX {
+        if (1 << 62) <= self.rank.next_serial() {
             return Err(NoMemory);
         }
-        self.ops += 1;
-        Ok(())
-    }
-}
-
-// What an operation prints is added to the output.
-fn print(output: &mut Vec<u8>, op: &Op) -> Result<(), NoMemory>
-    ensures { IfOk result (λ done. output.new.items ≡ output.old.items ++ text_of op.now) }
-{
-    match op {
-        Op::Output(text) => {
-            output.extend_from_slice(text.as_slice())?;
-            Ok(())
+        match self.rank.step()? {
+            Step::Local { began: _ } => Ok(Progress::Went),
+            Step::Wants(op) => self.operate(me, op, channels),
+            Step::Ended(end) => {
+                self.end = Some(end);
+                Ok(Progress::Stopped)
+            }
         }
-        Op::Mark => Ok(()),
     }
 }
