@@ -6,9 +6,12 @@ use c3_io::{Failed, MemSink, MemSource, Sink, Source};
 use std::alloc::Global;
 use std::test::Fail;
 
+mod calls;
 mod checks;
+mod messages;
 mod pointers;
 mod runs;
+mod schedules;
 mod types;
 
 const TWO_RANKS: &str = "int main(void){int x=7;printf(\"%d\\n\",x);return 0;}";

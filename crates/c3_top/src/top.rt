@@ -1,4 +1,5 @@
-ghost use Rattle.std.specs.Prelude.{◌≡◌, ◌≤◌, ◌<◌, ℕ, List, IfOk, IfSome, length, map, string_bytes};
+ghost use Rattle.std.specs.Prelude.{◌≡◌, ◌≤◌, ◌<◌, ◌++◌, ℕ, List, IfOk, IfSome, codes, length, map, string_bytes};
+ghost use Rattle.std.specs.Fmt.{decimal};
 ghost use Rattle.c_tree.specs.declared.kind.Kind.{Kind as Cause};
 ghost use Rattle.c3_io.specs.Faults.{Rose};
 ghost use Rattle.c3_top.specs.Command.{IsCommand, IsNoCommand};
@@ -6,10 +7,11 @@ ghost use Rattle.c3_top.specs.declared.command.Command.{Command as Asked};
 ghost use Rattle.c3_top.specs.declared.command.Command.TheVariants.{Plain};
 ghost use Rattle.c3_top.specs.Text.{IsProgram};
 ghost use Rattle.c3_top.specs.Refusal as refusals;
-ghost use Rattle.c3_top.specs.Answer.{IsAnswer, IsDone, IsDue, IsLeft, IsRefused, IsResult, IsWriteFault, Writes, Exactly, input_limit};
+ghost use Rattle.c3_top.specs.Answer.{HasParts, IsAnswer, IsBadSchedule, IsDone, IsDue, IsLeft, IsRefused, IsResult, IsTooMany, IsWriteFault, Writes, Exactly, input_limit};
 
 use crate::Status;
 use crate::command::{Command, asked};
+use crate::input::split;
 use crate::program::{NoProgram, program};
 use crate::refusal::refusal;
 use crate::run::{all_ended, finished, run, unfinished};
@@ -17,6 +19,7 @@ use c_kernel::program::Program;
 use c_tree::Kind;
 use c3_base::NoMemory;
 use c3_io::{ReadAllFault, Sink, Source, read_all, write_all_to};
+use job_schedule::{Entry, ScheduleFault, read_schedule};
 use std::alloc::Global;
 
 /// The greatest length of the input, in bytes.
@@ -46,11 +49,33 @@ fn refused(alloc: Global, kind: Kind, at: u32) -> Result<Answer, NoMemory>
     })
 }
 
-/// The answer to `plain N` for a program.
-fn ran(alloc: Global, ranks: u16, program: Program) -> Result<Answer, NoMemory>
-    ensures { IfOk result (λ answer. (bytes : List ℕ) → IsProgram bytes program → IsResult answer.status (Plain ranks) answer.text.items bytes) }
+/// The answer where a word of a schedule stands for nothing.
+fn bad_schedule(alloc: Global, at: u32) -> Result<Answer, NoMemory>
+    ensures { IfOk result (λ answer. (answer.status ≡ Status.BadSchedule at) × (answer.text.items ≡ codes "bad schedule at " ++ decimal at ++ codes "\n")) }
 {
-    let job = run(alloc, ranks, program)?;
+    let text = format!(in alloc; "bad schedule at {at}\n")?;
+    Ok(Answer {
+        status: Status::BadSchedule { at },
+        text: text.into_bytes(),
+    })
+}
+
+/// The answer where a schedule has too many events.
+fn too_many(alloc: Global, count: u64) -> Result<Answer, NoMemory>
+    ensures { IfOk result (λ answer. (answer.status ≡ Status.TooMany count) × (answer.text.items ≡ codes "too many events " ++ decimal count ++ codes "\n")) }
+{
+    let text = format!(in alloc; "too many events {count}\n")?;
+    Ok(Answer {
+        status: Status::TooMany { count },
+        text: text.into_bytes(),
+    })
+}
+
+/// The answer to `plain N` for a program under a schedule.
+fn ran(alloc: Global, ranks: u16, program: Program, schedule: &[Entry]) -> Result<Answer, NoMemory>
+    ensures { IfOk result (λ answer. (text bytes : List ℕ) → HasParts text schedule.now bytes → IsProgram text program → IsResult answer.status (Plain ranks) answer.text.items bytes) }
+{
+    let job = run(alloc, ranks, program, schedule)?;
     if all_ended(&job, ranks) {
         return Ok(Answer {
             status: Status::Done,
@@ -63,18 +88,37 @@ fn ran(alloc: Global, ranks: u16, program: Program) -> Result<Answer, NoMemory>
     })
 }
 
-/// The answer to a command on a whole input.
-fn result_of(alloc: Global, command: Command, input: &[u8]) -> Result<Answer, NoMemory>
-    requires { length input.now ≤ input_limit }
-    ensures { IfOk result (λ answer. IsResult answer.status command answer.text.items input.now) }
+/// The answer to a command on a text, under a schedule.
+fn text_result(
+    alloc: Global,
+    command: Command,
+    text: &[u8],
+    schedule: &[Entry],
+) -> Result<Answer, NoMemory>
+    requires { length text.now ≤ input_limit }
+    ensures { IfOk result (λ answer. (bytes : List ℕ) → HasParts text.now schedule.now bytes → IsResult answer.status command answer.text.items bytes) }
 {
-    match program(alloc, input) {
+    match program(alloc, text) {
         Ok(program) => match command {
-            Command::Plain { ranks } => ran(alloc, ranks, program),
+            Command::Plain { ranks } => ran(alloc, ranks, program, schedule),
             Command::Check => notice(alloc, Status::Done, b"accepted\n"),
         },
         Err(NoProgram::Refused { kind, at }) => refused(alloc, kind, at),
         Err(NoProgram::NoMemory) => Err(NoMemory),
+    }
+}
+
+/// The answer to a command on a whole input. The schedule comes before the text.
+fn result_of(alloc: Global, command: Command, input: &[u8]) -> Result<Answer, NoMemory>
+    requires { length input.now ≤ input_limit }
+    ensures { IfOk result (λ answer. IsResult answer.status command answer.text.items input.now) }
+{
+    let parts = split(input);
+    match read_schedule(alloc, parts.schedule) {
+        Ok(schedule) => text_result(alloc, command, parts.text, schedule.entries()),
+        Err(ScheduleFault::BadEvent { at }) => bad_schedule(alloc, at),
+        Err(ScheduleFault::TooMany { count }) => too_many(alloc, count),
+        Err(ScheduleFault::NoMemory) => Err(NoMemory),
     }
 }
 
@@ -107,7 +151,7 @@ fn due_answer<S: Source>(
     }
 }
 
-/// Does what the words say with the text that the source has, writes to the sink, and tells how it ended.
+/// Does what the words say with the input that the source has, writes to the sink, and tells how it ended.
 pub fn c3_top<S: Source, K: Sink>(
     alloc: Global,
     words: &[String],
@@ -123,6 +167,10 @@ pub fn c3_top<S: Source, K: Sink>(
     ensures usage { Exactly (IsNoCommand (map string_bytes words.now)) Status.Usage result }
     ensures refused { (kind : Cause) (at : ℕ) → IfSome (S.left source.old) (λ input.
         Exactly ((c : Asked) × IsCommand (map string_bytes words.now) c × IsRefused kind at input) (Status.Refused kind at) result) }
+    ensures bad_schedule { (at : ℕ) → IfSome (S.left source.old) (λ input.
+        Exactly ((c : Asked) × IsCommand (map string_bytes words.now) c × IsBadSchedule at input) (Status.BadSchedule at) result) }
+    ensures too_many { (count : ℕ) → IfSome (S.left source.old) (λ input.
+        Exactly ((c : Asked) × IsCommand (map string_bytes words.now) c × IsTooMany count input) (Status.TooMany count) result) }
     ensures done { IfSome (S.left source.old) (λ input.
         Exactly ((c : Asked) × IsCommand (map string_bytes words.now) c × IsDone c input) Status.Done result) }
     ensures unfinished { IfSome (S.left source.old) (λ input.

@@ -6,5 +6,5 @@ mod Signs
 mod Ranks
 mod Tables
 mod Splits
-mod Verdicts
+pub mod Verdicts
 mod Found

@@ -353,17 +353,8 @@ fn refuses_statements(rt: HostRuntime) -> Result<(), Fail> {
 #[test]
 fn refuses_what_is_not_built(rt: HostRuntime) -> Result<(), Fail> {
     let rows = [
-        ("", "int main(void){MPI_Status s;return 0;}"),
-        ("", "int main(void){MPI_Status *s;return 0;}"),
-        ("", "struct s{MPI_Status m;};int main(void){return 0;}"),
-        ("", "MPI_Status f(void);int main(void){return 0;}"),
-        ("", "int f(MPI_Status *s);int main(void){return 0;}"),
-        ("", "int main(void){return y;long n=sizeof(MPI_Status);}"),
-        ("", "int main(void){MPI_Init(NULL,NULL);return 0;}"),
         ("", "int main(void){MPI_Barrier(MPI_COMM_WORLD);return 0;}"),
-        ("", "int main(void){int x=MPI_ANY_TAG;return 0;}"),
-        ("", "int main(void){return MPI_ANY_SOURCE;}"),
-        ("", "int main(void){return y+MPI_PROC_NULL;}"),
+        ("", "int main(void){return y;MPI_Barrier(MPI_COMM_WORLD);}"),
     ];
     assert_refused(&rt, rt.alloc(), Kind::NotYet, &rows)?;
     let syntax = [

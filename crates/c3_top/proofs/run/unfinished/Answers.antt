@@ -1,12 +1,12 @@
 use Rattle.std.proofs.Common.{◌∙◌, ◌+◌, refl, arith}
-use Rattle.plain_job.specs.Plain.{ranks_of}
+use Rattle.plain_job.specs.Plain.{job_of}
 use Rattle.c3_top.specs.Run.{unfinished_from}
 use Rattle.c3_top.proofs.Texts.{left_more, left_end}
 use Rattle.c3_top.proofs.run.unfinished.Goals as goal
 
 pub loop-rank-preserved : goal.loop-rank-preserved
 loop-rank-preserved c =
-    left_more (ranks_of c.args.job.now) c.loop-rank.rank (c.loop-rank.rank + 1) c.loop-rank.text.items c.push_left.new.text.items (unfinished_from 0 (ranks_of c.args.job.now)) (omega arith) refl c.in_ok-push_left.ensures c.loop-rank.invariant
+    left_more (job_of c.args.job.now).ranks c.loop-rank.rank (c.loop-rank.rank + 1) c.loop-rank.text.items c.push_left.new.text.items (unfinished_from 0 (job_of c.args.job.now).ranks) (omega arith) refl c.in_ok-push_left.ensures c.loop-rank.invariant
 
 pub returns : goal.returns
-returns c = c.in_ok-extend_from_slice.ensures.items ∙ left_end (ranks_of c.args.job.now) c.loop-rank.rank c.loop-rank.text.items (omega arith) c.loop-rank.invariant
+returns c = c.in_ok-extend_from_slice.ensures.items ∙ left_end (job_of c.args.job.now).ranks c.loop-rank.rank c.loop-rank.text.items (omega arith) c.loop-rank.invariant
