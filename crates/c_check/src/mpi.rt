@@ -97,7 +97,7 @@ fn arguments_of(alloc: Global, c: &MpiCall) -> Result<Vec<&Expr>, AllocError>
             destination,
             tag,
             ..
-        } => Ok(vec![in alloc; &buffer.start, &buffer.count, destination, tag]?),
+        } => Ok(vec![in alloc; buffer.start.get(), buffer.count.get(), destination, tag]?),
         MpiCall::Recv {
             buffer,
             source,
@@ -105,12 +105,23 @@ fn arguments_of(alloc: Global, c: &MpiCall) -> Result<Vec<&Expr>, AllocError>
             status,
             ..
         } => match status {
-            Status::Ignore(_) => Ok(vec![in alloc; &buffer.start, &buffer.count, source, tag]?),
-            Status::Given(e) => Ok(vec![in alloc; &buffer.start, &buffer.count, source, tag, e]?),
+            Status::Ignore(_) => Ok(vec![in alloc;
+                buffer.start.get(),
+                buffer.count.get(),
+                source,
+                tag,
+            ]?),
+            Status::Given(e) => Ok(vec![in alloc;
+                buffer.start.get(),
+                buffer.count.get(),
+                source,
+                tag,
+                e.get(),
+            ]?),
         },
         MpiCall::GetCount { status, result, .. } => match status {
             Status::Ignore(_) => Ok(vec![in alloc; result]?),
-            Status::Given(e) => Ok(vec![in alloc; e, result]?),
+            Status::Given(e) => Ok(vec![in alloc; e.get(), result]?),
         },
         _ => Ok(Vec::new(alloc)),
     }

@@ -23,9 +23,9 @@ grade_of_links g [] h some = absurd (some refl)
 grade_of_links g (link ∷ links) h some = h
 
 -- an operand with links
-pub chain_linked : (g : ℕ) (first boxed : Expr) (rest : List (Link Expr)) → g < 10 → FirstOf g rest → (rest ≡ [] → ⊥) → boxed ≡ first → at_grade (suc g) (shape (expr.Chain boxed rest)) ≡ node (Binary g) (at_grade g (shape first) +++ each (link_row shape g) rest) none
-chain_linked g first boxed rest small graded some same =
-    ap (at_grade (suc g)) (shape_chain boxed rest ∙ ap (λ n. chain shape n boxed rest) (grade_of_links g rest graded some))
-    ∙ at_grade_chain shape g boxed rest
-    ∙ ap (λ p. node p (at_grade g (shape boxed) +++ each (link_row shape g) rest) none) (part_of_chain g small)
-    ∙ ap (λ x. node (Binary g) (at_grade g (shape x) +++ each (link_row shape g) rest) none) same
+pub chain_linked : (g : ℕ) (first : Expr) (rest : List (Link Expr)) (x : Expr) → g < 10 → FirstOf g rest → (rest ≡ [] → ⊥) → x ≡ expr.Chain first rest → at_grade (suc g) (shape x) ≡ node (Binary g) (at_grade g (shape first) +++ each (link_row shape g) rest) none
+chain_linked g first rest x small graded some same =
+    ap (λ (y : Expr). at_grade (suc g) (shape y)) same
+    ∙ ap (at_grade (suc g)) (shape_chain first rest ∙ ap (λ n. chain shape n first rest) (grade_of_links g rest graded some))
+    ∙ at_grade_chain shape g first rest
+    ∙ ap (λ p. node p (at_grade g (shape first) +++ each (link_row shape g) rest) none) (part_of_chain g small)

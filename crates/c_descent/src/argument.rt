@@ -13,6 +13,7 @@ use c_grammar::ahead::{at_datatype, at_reduction, next_is};
 use c_grammar::reading::{pick, place, skip};
 use c_tree::tree::{Buffer, DatatypeWord, Expr, ReductionWord, Status};
 use c_tree::{Class, Token};
+use sqlite_items::Boxed;
 use std::alloc::Global;
 
 /// A buffer's start, count and datatype.
@@ -53,7 +54,7 @@ pub fn next_argument(
     alloc: Global,
     tokens: &[Token],
     level: u8,
-) -> Result<(Expr, &[Token]), ReadError>
+) -> Result<(Boxed<Expr>, &[Token]), ReadError>
     requires { level ≤ limit + 1 }
     ensures reads { Gives (λ x. expression_tree x.0) (λ x. x.1.now) level (comma ⊳ e) tokens.now result }
     ensures shorter { IfOk result (λ x. length x.1.now < length tokens.now) }
@@ -133,7 +134,7 @@ pub fn last_argument(
     alloc: Global,
     tokens: &[Token],
     level: u8,
-) -> Result<(Expr, &[Token]), ReadError>
+) -> Result<(Boxed<Expr>, &[Token]), ReadError>
     requires { level ≤ limit + 1 }
     ensures reads { Gives (λ x. expression_tree x.0) (λ x. x.1.now) level (comma ⊳ e ⊳ comma ⊳ world) tokens.now result }
     ensures shorter { IfOk result (λ x. length x.1.now < length tokens.now) }

@@ -18,6 +18,7 @@ use c_grammar::ahead::next_is;
 use c_grammar::reading::{pick, place, skip};
 use c_tree::tree::{Expr, MpiCall, Name};
 use c_tree::{Call, Class, Operator, Token};
+use sqlite_items::Boxed;
 use std::alloc::Global;
 
 /// A call of MPI.
@@ -153,6 +154,7 @@ fn inquiry_call(
     let rest = skip(rest, Class::LeftParen, level)?;
     let (result, rest) = inquiry_arguments(alloc, rest, level + 1)?;
     let rest = skip(rest, Class::RightParen, level)?;
+    let result = result.into_inner();
     match inquiry {
         Inquiry::Rank => Ok((MpiCall::CommRank { at, result }, rest)),
         Inquiry::Size => Ok((MpiCall::CommSize { at, result }, rest)),
@@ -165,7 +167,7 @@ fn inquiry_arguments(
     alloc: Global,
     tokens: &[Token],
     level: u8,
-) -> Result<(Expr, &[Token]), ReadError>
+) -> Result<(Boxed<Expr>, &[Token]), ReadError>
     requires { level ≤ limit + 1 }
     ensures reads { Gives (λ x. expression_tree x.0) (λ x. x.1.now) level (grammar.world ⊳ grammar.comma ⊳ grammar.e) tokens.now result }
     ensures shorter { IfOk result (λ x. length x.1.now < length tokens.now) }

@@ -18,6 +18,7 @@ use c_grammar::ahead::next_is;
 use c_grammar::reading::{pick, skip};
 use c_tree::tree::{Buffer, Expr, MpiCall, ReductionWord};
 use c_tree::{Call, Class, Token};
+use sqlite_items::Boxed;
 use std::alloc::Global;
 
 /// A collective call other than a barrier.
@@ -57,6 +58,7 @@ fn bcast_call(alloc: Global, tokens: &[Token], level: u8) -> Result<(MpiCall, &[
     let (buffer, rest) = buffer(alloc, rest, inner)?;
     let (root, rest) = last_argument(alloc, rest, inner)?;
     let rest = skip(rest, Class::RightParen, level)?;
+    let root = root.into_inner();
     Ok((MpiCall::Bcast { at, buffer, root }, rest))
 }
 
@@ -78,10 +80,10 @@ fn reduce_call(alloc: Global, tokens: &[Token], level: u8) -> Result<(MpiCall, &
     } = arguments;
     let call = MpiCall::Reduce {
         at,
-        send,
+        send: send.into_inner(),
         receive,
         operation,
-        root,
+        root: root.into_inner(),
     };
     Ok((call, rest))
 }
@@ -108,7 +110,7 @@ fn allreduce_call(
     } = arguments;
     let call = MpiCall::Allreduce {
         at,
-        send,
+        send: send.into_inner(),
         receive,
         operation,
     };
@@ -118,7 +120,7 @@ fn allreduce_call(
 /// What is sent, where the result goes, and how it is made.
 #[derive(Debug, Drop)]
 struct ReduceArguments {
-    send: Expr,
+    send: Boxed<Expr>,
     receive: Buffer,
     operation: ReductionWord,
 }
@@ -160,7 +162,7 @@ fn distribution_call(
     let (buffers, rest) = two_buffers(alloc, rest, inner)?;
     let (root, rest) = last_argument(alloc, rest, inner)?;
     let rest = skip(rest, Class::RightParen, level)?;
-    let call = distributed(distribution, at, buffers, root);
+    let call = distributed(distribution, at, buffers, root.into_inner());
     Ok((call, rest))
 }
 

@@ -117,5 +117,5 @@ fn initializer(
     }
     let rest = skip(tokens, Class::Equal, level)?;
     let (value, rest) = expression(alloc, rest, level)?;
-    Ok((Some(value), rest))
+    Ok((Some(value.into_inner()), rest))
 }

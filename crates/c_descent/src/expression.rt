@@ -20,12 +20,16 @@ use c_grammar::ahead::{at_operand, at_type, next_is};
 use c_grammar::reading::{place, skip};
 use c_tree::tree::{Access, Expr, Link, MemberName};
 use c_tree::{Class, Token};
-use sqlite_items::Items;
+use sqlite_items::{Boxed, Items};
 use std::alloc::Global;
 
 /// An expression.
 #[cycle(tower)]
-pub fn expression(alloc: Global, tokens: &[Token], level: u8) -> Result<(Expr, &[Token]), ReadError>
+pub fn expression(
+    alloc: Global,
+    tokens: &[Token],
+    level: u8,
+) -> Result<(Boxed<Expr>, &[Token]), ReadError>
     requires { level ≤ limit + 1 }
     ensures reads { Gives (λ x. expression_tree x.0) (λ x. x.1.now) level (Ref grammar.Expression) tokens.now result }
     ensures shorter { IfOk result (λ x. length x.1.now < length tokens.now) }
@@ -45,7 +49,7 @@ fn choice_arms(
     alloc: Global,
     tokens: &[Token],
     level: u8,
-) -> Result<((Expr, Expr), &[Token]), ReadError>
+) -> Result<((Boxed<Expr>, Boxed<Expr>), &[Token]), ReadError>
     requires { level ≤ limit + 1 }
     ensures reads { Gives (λ x. expression_tree x.0.0 +++ expression_tree x.0.1) (λ x. x.1.now) level (grammar.word class.Question ⊳ Deeper grammar.e ⊳ grammar.word class.Colon ⊳ Deeper grammar.e) tokens.now result }
     ensures shorter { IfOk result (λ x. length x.1.now < length tokens.now) }
@@ -65,7 +69,7 @@ fn binary(
     tokens: &[Token],
     level: u8,
     grade: u8,
-) -> Result<(Expr, &[Token]), ReadError>
+) -> Result<(Boxed<Expr>, &[Token]), ReadError>
     requires level { level ≤ limit + 1 }
     requires grade { grade < 10 }
     ensures reads { Gives (λ x. at_grade (suc grade) (shape x.0)) (λ x. x.1.now) level (Ref (grammar.Binary grade)) tokens.now result }
@@ -85,7 +89,7 @@ fn operand(
     tokens: &[Token],
     level: u8,
     grade: u8,
-) -> Result<(Expr, &[Token]), ReadError>
+) -> Result<(Boxed<Expr>, &[Token]), ReadError>
     requires level { level ≤ limit + 1 }
     requires grade { grade < 10 }
     ensures reads { Gives (λ x. at_grade grade (shape x.0)) (λ x. x.1.now) level (grammar.operand grade) tokens.now result }
@@ -117,7 +121,10 @@ fn links(
     'links: while is_operator(rest, grade) {
         let (operator, after) = operator(rest, level, grade)?;
         let (operand, after) = operand(alloc, after, level, grade)?;
-        links.push(Link { operator, operand })?;
+        links.push(Link {
+            operator,
+            operand: operand.into_inner(),
+        })?;
         rest = after;
     }
     Ok((links, rest))
@@ -125,7 +132,11 @@ fn links(
 
 /// An operand.
 #[cycle(tower)]
-pub fn unary(alloc: Global, tokens: &[Token], level: u8) -> Result<(Expr, &[Token]), ReadError>
+pub fn unary(
+    alloc: Global,
+    tokens: &[Token],
+    level: u8,
+) -> Result<(Boxed<Expr>, &[Token]), ReadError>
     requires { level ≤ limit + 1 }
     ensures reads { Gives (λ x. unary_tree x.0) (λ x. x.1.now) level (Ref grammar.Unary) tokens.now result }
     ensures grade { IfOk result (λ x. grade_of x.0 ≡ 0) }
@@ -151,19 +162,23 @@ pub fn unary(alloc: Global, tokens: &[Token], level: u8) -> Result<(Expr, &[Toke
 
 /// A constant with its suffixes.
 #[cycle(tower)]
-fn constant(alloc: Global, tokens: &[Token], level: u8) -> Result<(Expr, &[Token]), ReadError>
+fn constant(
+    alloc: Global,
+    tokens: &[Token],
+    level: u8,
+) -> Result<(Boxed<Expr>, &[Token]), ReadError>
     requires { level ≤ limit + 1 }
     ensures reads { Gives (λ x. (shape x.0).row) (λ x. x.1.now) level (Word All grammar.literals ⊳ grammar.suffixes) tokens.now result }
     ensures grade { IfOk result (λ x. grade_of x.0 ≡ 0) }
     ensures shorter { IfOk result (λ x. length x.1.now < length tokens.now) }
 {
-    let (base, rest) = literal(tokens, level)?;
+    let (base, rest) = literal(alloc, tokens, level)?;
     suffixes(alloc, base, rest, level)
 }
 
 /// A variable or a call, with its suffixes.
 #[cycle(tower)]
-fn named(alloc: Global, tokens: &[Token], level: u8) -> Result<(Expr, &[Token]), ReadError>
+fn named(alloc: Global, tokens: &[Token], level: u8) -> Result<(Boxed<Expr>, &[Token]), ReadError>
     requires { level ≤ limit + 1 }
     ensures reads { Gives (λ x. (shape x.0).row) (λ x. x.1.now) level (grammar.valued class.Name ⊳ Maybe (Ref grammar.Arguments) ⊳ grammar.suffixes) tokens.now result }
     ensures grade { IfOk result (λ x. grade_of x.0 ≡ 0) }
@@ -171,10 +186,12 @@ fn named(alloc: Global, tokens: &[Token], level: u8) -> Result<(Expr, &[Token]),
 {
     let (name, rest) = name(alloc, tokens, level)?;
     if !next_is(rest, Class::LeftParen) {
-        return suffixes(alloc, nodes::variable(name), rest, level);
+        let base = nodes::variable(alloc, name)?;
+        return suffixes(alloc, base, rest, level);
     }
     let (arguments, rest) = arguments(alloc, rest, level)?;
-    suffixes(alloc, nodes::call(name, arguments), rest, level)
+    let base = nodes::call(alloc, name, arguments)?;
+    suffixes(alloc, base, rest, level)
 }
 
 /// The arguments of a call (C99 6.5.2.2).
@@ -210,7 +227,7 @@ fn argument_list(
         return Ok((arguments, tokens));
     }
     let (first, rest) = expression(alloc, tokens, level)?;
-    arguments.push(first)?;
+    arguments.push(first.into_inner())?;
     more_arguments(alloc, arguments, rest, level)
 }
 
@@ -231,7 +248,7 @@ fn more_arguments(
     'arguments: while next_is(rest, Class::Comma) {
         let after = skip(rest, Class::Comma, level)?;
         let (argument, after) = expression(alloc, after, level)?;
-        arguments.push(argument)?;
+        arguments.push(argument.into_inner())?;
         rest = after;
     }
     Ok((arguments, rest))
@@ -239,7 +256,11 @@ fn more_arguments(
 
 /// A call of `malloc`, with its suffixes.
 #[cycle(tower)]
-fn allocation(alloc: Global, tokens: &[Token], level: u8) -> Result<(Expr, &[Token]), ReadError>
+fn allocation(
+    alloc: Global,
+    tokens: &[Token],
+    level: u8,
+) -> Result<(Boxed<Expr>, &[Token]), ReadError>
     requires { level ≤ limit + 1 }
     ensures reads { Gives (λ x. (shape x.0).row) (λ x. x.1.now) level (grammar.placed class.Malloc ⊳ grammar.inside grammar.e ⊳ grammar.suffixes) tokens.now result }
     ensures grade { IfOk result (λ x. grade_of x.0 ≡ 0) }
@@ -253,7 +274,11 @@ fn allocation(alloc: Global, tokens: &[Token], level: u8) -> Result<(Expr, &[Tok
 
 /// An expression in parentheses that are no part of it.
 #[cycle(tower)]
-pub fn inside(alloc: Global, tokens: &[Token], level: u8) -> Result<(Expr, &[Token]), ReadError>
+pub fn inside(
+    alloc: Global,
+    tokens: &[Token],
+    level: u8,
+) -> Result<(Boxed<Expr>, &[Token]), ReadError>
     requires { level ≤ limit + 1 }
     ensures reads { Gives (λ x. expression_tree x.0) (λ x. x.1.now) level (grammar.inside grammar.e) tokens.now result }
     ensures level { IfOk result (λ x. level ≤ limit) }
@@ -267,7 +292,7 @@ pub fn inside(alloc: Global, tokens: &[Token], level: u8) -> Result<(Expr, &[Tok
 
 /// The size of a type (C99 6.5.3.4).
 #[tactic(auto, using(c_grammar::proofs::Steps::descent))]
-fn size_of(alloc: Global, tokens: &[Token], level: u8) -> Result<(Expr, &[Token]), ReadError>
+fn size_of(alloc: Global, tokens: &[Token], level: u8) -> Result<(Boxed<Expr>, &[Token]), ReadError>
     requires { level ≤ limit + 1 }
     ensures reads { Gives (λ x. (shape x.0).row) (λ x. x.1.now) level (grammar.placed class.SizeOf ⊳ grammar.inside (Ref grammar.TypeSpecifier ⊳ grammar.stars)) tokens.now result }
     ensures grade { IfOk result (λ x. grade_of x.0 ≡ 0) }
@@ -277,12 +302,17 @@ fn size_of(alloc: Global, tokens: &[Token], level: u8) -> Result<(Expr, &[Token]
     let rest = skip(rest, Class::LeftParen, level)?;
     let (name, rest) = type_name(alloc, rest, level + 1)?;
     let rest = skip(rest, Class::RightParen, level)?;
-    Ok((nodes::size_of(at, name), rest))
+    let size = nodes::size_of(alloc, at, name)?;
+    Ok((size, rest))
 }
 
 /// A cast, or an expression in parentheses with its suffixes.
 #[cycle(tower)]
-fn parenthesis(alloc: Global, tokens: &[Token], level: u8) -> Result<(Expr, &[Token]), ReadError>
+fn parenthesis(
+    alloc: Global,
+    tokens: &[Token],
+    level: u8,
+) -> Result<(Boxed<Expr>, &[Token]), ReadError>
     requires { level ≤ limit + 1 }
     ensures reads { Gives (λ x. (shape x.0).row) (λ x. x.1.now) level (grammar.placed class.LeftParen ⊳ (grammar.cast ∥ grammar.group)) tokens.now result }
     ensures grade { IfOk result (λ x. grade_of x.0 ≡ 0) }
@@ -297,7 +327,12 @@ fn parenthesis(alloc: Global, tokens: &[Token], level: u8) -> Result<(Expr, &[To
 
 /// A cast (C99 6.5.4) after its `(`.
 #[cycle(tower)]
-fn cast(alloc: Global, at: u32, tokens: &[Token], level: u8) -> Result<(Expr, &[Token]), ReadError>
+fn cast(
+    alloc: Global,
+    at: u32,
+    tokens: &[Token],
+    level: u8,
+) -> Result<(Boxed<Expr>, &[Token]), ReadError>
     requires { level ≤ limit }
     ensures reads { GivesMore (λ x. (shape x.0).row) (λ x. x.1.now) (word class.LeftParen at none) level grammar.cast tokens.now result }
     ensures grade { IfOk result (λ x. grade_of x.0 ≡ 0) }
@@ -313,7 +348,12 @@ fn cast(alloc: Global, at: u32, tokens: &[Token], level: u8) -> Result<(Expr, &[
 
 /// An expression in parentheses, after its `(`, with its suffixes.
 #[cycle(tower)]
-fn group(alloc: Global, at: u32, tokens: &[Token], level: u8) -> Result<(Expr, &[Token]), ReadError>
+fn group(
+    alloc: Global,
+    at: u32,
+    tokens: &[Token],
+    level: u8,
+) -> Result<(Boxed<Expr>, &[Token]), ReadError>
     requires { level ≤ limit }
     ensures reads { GivesMore (λ x. (shape x.0).row) (λ x. x.1.now) (word class.LeftParen at none) level grammar.group tokens.now result }
     ensures grade { IfOk result (λ x. grade_of x.0 ≡ 0) }
@@ -327,7 +367,11 @@ fn group(alloc: Global, at: u32, tokens: &[Token], level: u8) -> Result<(Expr, &
 
 /// A prefix operator with its operand (C99 6.5.3).
 #[cycle(tower)]
-fn prefixed(alloc: Global, tokens: &[Token], level: u8) -> Result<(Expr, &[Token]), ReadError>
+fn prefixed(
+    alloc: Global,
+    tokens: &[Token],
+    level: u8,
+) -> Result<(Boxed<Expr>, &[Token]), ReadError>
     requires { level ≤ limit + 1 }
     ensures reads { Gives (λ x. (shape x.0).row) (λ x. x.1.now) level (grammar.one_of grammar.prefixes ⊳ Deeper (Ref grammar.Unary)) tokens.now result }
     ensures grade { IfOk result (λ x. grade_of x.0 ≡ 0) }
@@ -343,10 +387,10 @@ fn prefixed(alloc: Global, tokens: &[Token], level: u8) -> Result<(Expr, &[Token
 #[cycle(tower)]
 fn suffixes(
     alloc: Global,
-    base: Expr,
+    base: Boxed<Expr>,
     tokens: &[Token],
     level: u8,
-) -> Result<(Expr, &[Token]), ReadError>
+) -> Result<(Boxed<Expr>, &[Token]), ReadError>
     requires level { level ≤ limit + 1 }
     requires grade { grade_of base ≡ 0 }
     ensures reads { GivesMore (λ x. (shape x.0).row) (λ x. x.1.now) (shape base).row level grammar.suffixes tokens.now result }
@@ -367,10 +411,10 @@ fn suffixes(
 #[cycle(tower)]
 fn suffix(
     alloc: Global,
-    base: Expr,
+    base: Boxed<Expr>,
     tokens: &[Token],
     level: u8,
-) -> Result<(Expr, &[Token]), ReadError>
+) -> Result<(Boxed<Expr>, &[Token]), ReadError>
     requires { level ≤ limit + 1 }
     ensures reads { GivesMore (λ x. (shape x.0).row) (λ x. x.1.now) (shape base).row level (Ref grammar.Suffix) tokens.now result }
     ensures grade { IfOk result (λ x. grade_of x.0 ≡ 0) }
@@ -392,7 +436,7 @@ fn subscript(
     alloc: Global,
     tokens: &[Token],
     level: u8,
-) -> Result<((u32, Expr), &[Token]), ReadError>
+) -> Result<((u32, Boxed<Expr>), &[Token]), ReadError>
     requires { level ≤ limit + 1 }
     ensures reads { Gives (λ x. word class.LeftBracket x.0.0 (expression_tree x.0.1)) (λ x. x.1.now) level (grammar.placed class.LeftBracket ⊳ Deeper grammar.e ⊳ grammar.word class.RightBracket) tokens.now result }
     ensures shorter { IfOk result (λ x. length x.1.now < length tokens.now) }

@@ -15,6 +15,7 @@ use c_grammar::ahead::next_is;
 use c_grammar::reading::skip;
 use c_tree::tree::{Buffer, DatatypeWord, Expr, MpiCall, Status};
 use c_tree::{Call, Class, Token};
+use sqlite_items::Boxed;
 use std::alloc::Global;
 
 /// A call that sends or receives, or asks how much came, or a collective one.
@@ -57,8 +58,8 @@ fn send_call(alloc: Global, tokens: &[Token], level: u8) -> Result<(MpiCall, &[T
     let call = MpiCall::Send {
         at,
         buffer,
-        destination,
-        tag,
+        destination: destination.into_inner(),
+        tag: tag.into_inner(),
     };
     Ok((call, rest))
 }
@@ -82,8 +83,8 @@ fn recv_call(alloc: Global, tokens: &[Token], level: u8) -> Result<(MpiCall, &[T
     let call = MpiCall::Recv {
         at,
         buffer,
-        source,
-        tag,
+        source: source.into_inner(),
+        tag: tag.into_inner(),
         status,
     };
     Ok((call, rest))
@@ -93,8 +94,8 @@ fn recv_call(alloc: Global, tokens: &[Token], level: u8) -> Result<(MpiCall, &[T
 #[derive(Debug, Drop)]
 struct Message {
     buffer: Buffer,
-    process: Expr,
-    tag: Expr,
+    process: Boxed<Expr>,
+    tag: Boxed<Expr>,
 }
 
 /// What is sent or received, and the communicator.
@@ -118,7 +119,11 @@ fn message_arguments(
 }
 
 /// The rank of the other process and a tag, each after a comma, and the communicator.
-fn envelope(alloc: Global, tokens: &[Token], level: u8) -> Result<(Expr, Expr, &[Token]), ReadError>
+fn envelope(
+    alloc: Global,
+    tokens: &[Token],
+    level: u8,
+) -> Result<(Boxed<Expr>, Boxed<Expr>, &[Token]), ReadError>
     requires { level ≤ limit + 1 }
     ensures reads { Gives (λ x. expression_tree x.0 +++ expression_tree x.1) (λ x. x.2.now) level (comma ⊳ e ⊳ comma ⊳ e ⊳ comma ⊳ world) tokens.now result }
     ensures shorter { IfOk result (λ x. length x.2.now < length tokens.now) }
@@ -145,7 +150,7 @@ fn get_count_call(
         at,
         status,
         datatype,
-        result,
+        result: result.into_inner(),
     };
     Ok((call, rest))
 }
@@ -155,7 +160,7 @@ fn count_arguments(
     alloc: Global,
     tokens: &[Token],
     level: u8,
-) -> Result<(Status, DatatypeWord, Expr, &[Token]), ReadError>
+) -> Result<(Status, DatatypeWord, Boxed<Expr>, &[Token]), ReadError>
     requires { level ≤ limit + 1 }
     ensures reads { Gives (λ x. status_tree x.0 +++ datatype_row x.1 +++ expression_tree x.2) (λ x. x.3.now) level (Ref grammar.Status ⊳ comma ⊳ grammar.datatype ⊳ comma ⊳ e) tokens.now result }
     ensures shorter { IfOk result (λ x. length x.3.now < length tokens.now) }

@@ -15,12 +15,13 @@ ghost use Rattle.c_grammar.specs.Trees.{block_item_tree, block_tree, else_tree, 
 
 use crate::declaration::declaration;
 use crate::expression::inside;
+use crate::words::followed_by;
 use c_grammar::ReadError;
 use c_grammar::ahead::{at_block_item, at_type, next_is};
 use c_grammar::reading::{place, skip};
 use c_tree::tree::{Arm, Block, BlockItem, Stmt};
 use c_tree::{Class, Token};
-use head::{do_test, for_clauses};
+use head::{Clauses, do_test, for_clauses, unboxed};
 use leaf::leaf_statement;
 pub use simple::simple_statement;
 use sqlite_items::{Boxed, Items};
@@ -62,7 +63,7 @@ fn block_item(
 {
     if at_type(tokens) {
         let (variables, rest) = declaration(alloc, tokens, level)?;
-        let rest = skip(rest, Class::Semicolon, level)?;
+        let (variables, rest) = followed_by(variables, rest, Class::Semicolon, level)?;
         return Ok((BlockItem::Declaration(variables), rest));
     }
     let (action, rest) = statement(alloc, tokens, level)?;
@@ -81,19 +82,32 @@ fn statement(alloc: Global, tokens: &[Token], level: u8) -> Result<(Stmt, &[Toke
     }
     let (at, rest) = place(tokens, Class::If, level)?;
     let (test, rest) = inside(alloc, rest, level)?;
-    let (then, rest) = statement(alloc, rest, level + 1)?;
+    let (then, rest) = boxed_statement(alloc, rest, level + 1)?;
     let (arms, otherwise, rest) = else_part(alloc, rest, level)?;
-    let then = Boxed::new(alloc, then)?;
-    Ok((
-        Stmt::If {
-            at,
-            test,
-            then,
-            arms,
-            otherwise,
-        },
-        rest,
-    ))
+    let action = Stmt::If {
+        at,
+        test: test.into_inner(),
+        then,
+        arms,
+        otherwise,
+    };
+    Ok((action, rest))
+}
+
+/// A statement, in a box.
+#[cycle(statements)]
+fn boxed_statement(
+    alloc: Global,
+    tokens: &[Token],
+    level: u8,
+) -> Result<(Boxed<Stmt>, &[Token]), ReadError>
+    requires { level ≤ limit + 1 }
+    ensures reads { Gives (λ x. statement_tree (statement_row x.0)) (λ x. x.1.now) level (Ref grammar.Statement) tokens.now result }
+    ensures shorter { IfOk result (λ x. length x.1.now < length tokens.now) }
+{
+    let (action, rest) = statement(alloc, tokens, level)?;
+    let action = Boxed::new(alloc, action)?;
+    Ok((action, rest))
 }
 
 /// What follows the branch of an `if`: each `else if`, and the branch of an `else` that ends them.
@@ -119,6 +133,7 @@ fn else_part(
         let after = skip(after, Class::If, level)?;
         let (test, after) = inside(alloc, after, level)?;
         let (then, after) = statement(alloc, after, level + 1)?;
+        let test = test.into_inner();
         arms.push(Arm { test, then })?;
         rest = after;
     }
@@ -165,8 +180,8 @@ fn while_statement(
 {
     let (at, rest) = place(tokens, Class::While, level)?;
     let (test, rest) = inside(alloc, rest, level)?;
-    let (body, rest) = statement(alloc, rest, level + 1)?;
-    let body = Boxed::new(alloc, body)?;
+    let (body, rest) = boxed_statement(alloc, rest, level + 1)?;
+    let test = test.into_inner();
     Ok((Stmt::While { at, test, body }, rest))
 }
 
@@ -178,9 +193,9 @@ fn do_statement(alloc: Global, tokens: &[Token], level: u8) -> Result<(Stmt, &[T
     ensures shorter { IfOk result (λ x. length x.1.now < length tokens.now) }
 {
     let (at, rest) = place(tokens, Class::Do, level)?;
-    let (body, rest) = statement(alloc, rest, level + 1)?;
+    let (body, rest) = boxed_statement(alloc, rest, level + 1)?;
     let (test, rest) = do_test(alloc, rest, level)?;
-    let body = Boxed::new(alloc, body)?;
+    let test = test.into_inner();
     Ok((Stmt::DoWhile { at, body, test }, rest))
 }
 
@@ -192,17 +207,15 @@ fn for_statement(alloc: Global, tokens: &[Token], level: u8) -> Result<(Stmt, &[
     ensures shorter { IfOk result (λ x. length x.1.now < length tokens.now) }
 {
     let (at, rest) = place(tokens, Class::For, level)?;
-    let (start, test, step, rest) = for_clauses(alloc, rest, level)?;
-    let (body, rest) = statement(alloc, rest, level + 1)?;
-    let body = Boxed::new(alloc, body)?;
-    Ok((
-        Stmt::For {
-            at,
-            start,
-            test,
-            step,
-            body,
-        },
-        rest,
-    ))
+    let (clauses, rest) = for_clauses(alloc, rest, level)?;
+    let (body, rest) = boxed_statement(alloc, rest, level + 1)?;
+    let Clauses { start, test, step } = clauses.into_inner();
+    let action = Stmt::For {
+        at,
+        start: unboxed(start),
+        test: unboxed(test),
+        step,
+        body,
+    };
+    Ok((action, rest))
 }

@@ -11,10 +11,30 @@ ghost use Rattle.c_grammar.specs.Gives.{Gives};
 ghost use Rattle.c_grammar.specs.Trees.{name_row, number_row, member_name_row, shape, grade_of, operand, constant_class};
 ghost use Rattle.c_grammar.specs.Readers.{integer_class, integer_value, literal_class, literal_value, member_class, member_value};
 
+use c_grammar::reading::skip;
 use c_grammar::{Integer, Literal, MemberName as FoundName, ReadError, reading};
-use c_tree::Token;
 use c_tree::tree::{Constant, Expr, MemberName, Name, Number, Text};
+use c_tree::{Class, Token};
+use sqlite_items::Boxed;
 use std::alloc::Global;
+
+/// What was read, where the next token is of the class, which is passed.
+#[tactic(auto)]
+pub fn followed_by<T: Drop>(
+    read: T,
+    tokens: &[Token],
+    class: Class,
+    level: u8,
+) -> Result<(T, &[Token]), ReadError>
+    ensures same { IfOk result (λ x. x.0 ≡ read) }
+    ensures reads { Gives (λ x. none) (λ x. x.1.now) level (grammar.word class) tokens.now result }
+    ensures shorter { IfOk result (λ x. length x.1.now < length tokens.now) }
+{
+    match skip(tokens, class, level) {
+        Ok(rest) => Ok((read, rest)),
+        Err(error) => Err(error),
+    }
+}
 
 /// A name of the program.
 pub fn name(alloc: Global, tokens: &[Token], level: u8) -> Result<(Name, &[Token]), ReadError>
@@ -53,14 +73,21 @@ pub fn number(tokens: &[Token], level: u8) -> Result<(Number, &[Token]), ReadErr
 }
 
 /// A constant: a number, a character or a word.
-pub fn literal(tokens: &[Token], level: u8) -> Result<(Expr, &[Token]), ReadError>
+pub fn literal(
+    alloc: Global,
+    tokens: &[Token],
+    level: u8,
+) -> Result<(Boxed<Expr>, &[Token]), ReadError>
     ensures reads { Gives (λ x. (shape x.0).row) (λ x. x.1.now) level (Word All grammar.literals) tokens.now result }
     ensures grade { IfOk result (λ x. grade_of x.0 ≡ 0) }
     ensures level { IfOk result (λ x. level ≤ limit) }
     ensures shorter { IfOk result (λ x. length x.1.now < length tokens.now) }
 {
     match reading::literal(tokens, level) {
-        Ok((at, literal, rest)) => Ok((literal_at(at, literal), rest)),
+        Ok((at, literal, rest)) => {
+            let constant = Boxed::new(alloc, literal_at(at, literal))?;
+            Ok((constant, rest))
+        }
         Err(error) => Err(error),
     }
 }

@@ -428,8 +428,8 @@ pub enum MpiCall {
 /// A buffer's start, count and datatype.
 #[derive(Debug, Drop)]
 pub struct Buffer {
-    pub start: Expr,
-    pub count: Expr,
+    pub start: Boxed<Expr>,
+    pub count: Boxed<Expr>,
     pub datatype: DatatypeWord,
 }
 
@@ -452,5 +452,5 @@ pub struct ReductionWord {
 pub enum Status {
     /// `MPI_STATUS_IGNORE`.
     Ignore(u32),
-    Given(Expr),
+    Given(Boxed<Expr>),
 }

@@ -13,11 +13,11 @@ ghost use Rattle.c_grammar.specs.Trees.{each, expression_tree, mark_row, stateme
 ghost use Rattle.c_descent.specs.Statements.{holders, leaves};
 
 use super::ahead::at_mark;
-use super::head::optional_expression;
+use super::head::{optional_expression, unboxed};
 use super::simple::simple_statement;
 use crate::call::mpi_call;
 use crate::expression::{expression, inside};
-use crate::words::text;
+use crate::words::{followed_by, text};
 use c_grammar::ReadError;
 use c_grammar::ahead::{at_mpi_call, next_is};
 use c_grammar::reading::{place, skip};
@@ -108,6 +108,7 @@ fn return_statement(
     let (at, rest) = place(tokens, Class::Return, level)?;
     let (value, rest) = optional_expression(alloc, rest, level)?;
     let rest = skip(rest, Class::Semicolon, level)?;
+    let value = unboxed(value);
     Ok((Stmt::Return { at, value }, rest))
 }
 
@@ -120,6 +121,7 @@ fn free_statement(alloc: Global, tokens: &[Token], level: u8) -> Result<(Stmt, &
     let (at, rest) = place(tokens, Class::Free, level)?;
     let (pointer, rest) = inside(alloc, rest, level)?;
     let rest = skip(rest, Class::Semicolon, level)?;
+    let pointer = pointer.into_inner();
     Ok((Stmt::Free { at, pointer }, rest))
 }
 
@@ -176,7 +178,7 @@ fn printed(alloc: Global, tokens: &[Token], level: u8) -> Result<(Items<Expr>, &
     'arguments: while next_is(rest, Class::Comma) {
         let after = skip(rest, Class::Comma, level)?;
         let (argument, after) = expression(alloc, after, level)?;
-        arguments.push(argument)?;
+        arguments.push(argument.into_inner())?;
         rest = after;
     }
     Ok((arguments, rest))
@@ -217,7 +219,7 @@ fn call_statement(alloc: Global, tokens: &[Token], level: u8) -> Result<(Stmt, &
     ensures shorter { IfOk result (λ x. length x.1.now < length tokens.now) }
 {
     let (call, rest) = mpi_call(alloc, tokens, level)?;
-    let rest = skip(rest, Class::Semicolon, level)?;
+    let (call, rest) = followed_by(call, rest, Class::Semicolon, level)?;
     Ok((Stmt::Mpi(call), rest))
 }
 
@@ -232,6 +234,6 @@ fn remaining_statement(
     ensures shorter { IfOk result (λ x. length x.1.now < length tokens.now) }
 {
     let (action, rest) = simple_statement(alloc, tokens, level)?;
-    let rest = skip(rest, Class::Semicolon, level)?;
+    let (action, rest) = followed_by(action, rest, Class::Semicolon, level)?;
     Ok((Stmt::Simple(action), rest))
 }

@@ -46,6 +46,7 @@ fn prefix_step(
 {
     let (at, step, rest) = read_step(tokens, level)?;
     let (place, rest) = unary(alloc, rest, level)?;
+    let place = place.into_inner();
     Ok((SimpleStatement::Prefix { at, step, place }, rest))
 }
 
@@ -66,19 +67,20 @@ fn after_expression(
         let (value, rest) = expression(alloc, rest, level)?;
         return Ok((
             SimpleStatement::Assign {
-                place,
+                place: place.into_inner(),
                 at,
                 operator,
-                value,
+                value: value.into_inner(),
             },
             rest,
         ));
     }
     if is_step(rest) {
         let (at, step, rest) = read_step(rest, level)?;
+        let place = place.into_inner();
         return Ok((SimpleStatement::Postfix { place, at, step }, rest));
     }
-    Ok((SimpleStatement::Expression(place), rest))
+    Ok((SimpleStatement::Expression(place.into_inner()), rest))
 }
 
 /// `=` or an operator and `=`.

@@ -24,7 +24,7 @@ pub returns-in_err-rest-2-clause-reads : goal.returns-in_err-rest-2-clause-reads
 returns-in_err-rest-2-clause-reads c = passed_on _ _ _ _ _ _ _ c.from_residual-in_err-rest-2.ensures.1 (fails_from _ (λ k z h. f_ref (f_more (one_of inquiries) (c.in_ok-at.ensures.reads inquiry_class inquiries c.at_inquiry.ensures) (f_more (word class.LeftParen) c.in_ok-rest.ensures.reads (f_second (r_deeper c.in_ok-result.ensures.reads) h)))) c.in_err-rest-2.ensures.reads)
 
 pub returns-in-Rank-clause-reads : goal.returns-in-Rank-clause-reads
-returns-in-Rank-clause-reads c = r_same (r_ref (r_more (one_of inquiries) (c.in_ok-at.ensures.reads inquiry_class inquiries c.at_inquiry.ensures) (r_more (word class.LeftParen) c.in_ok-rest.ensures.reads (r_end (r_deeper c.in_ok-result.ensures.reads) c.in_ok-rest-2.ensures.reads)))) (ap (λ (i : Inquiry). node grammar.CommunicatorCall (leaf (inquiry_class i) value.Nothing c.in_ok-at.at (expression_tree c.in_ok-result.result)) none) c.in-Rank.is)
+returns-in-Rank-clause-reads c = rw c.into_inner-result.ensures (r_same (r_ref (r_more (one_of inquiries) (c.in_ok-at.ensures.reads inquiry_class inquiries c.at_inquiry.ensures) (r_more (word class.LeftParen) c.in_ok-rest.ensures.reads (r_end (r_deeper c.in_ok-result.ensures.reads) c.in_ok-rest-2.ensures.reads)))) (ap (λ (i : Inquiry). node grammar.CommunicatorCall (leaf (inquiry_class i) value.Nothing c.in_ok-at.at (expression_tree c.in_ok-result.result)) none) c.in-Rank.is))
 
 pub returns-in-Size-clause-reads : goal.returns-in-Size-clause-reads
-returns-in-Size-clause-reads c = r_same (r_ref (r_more (one_of inquiries) (c.in_ok-at.ensures.reads inquiry_class inquiries c.at_inquiry.ensures) (r_more (word class.LeftParen) c.in_ok-rest.ensures.reads (r_end (r_deeper c.in_ok-result.ensures.reads) c.in_ok-rest-2.ensures.reads)))) (ap (λ (i : Inquiry). node grammar.CommunicatorCall (leaf (inquiry_class i) value.Nothing c.in_ok-at.at (expression_tree c.in_ok-result.result)) none) c.in-Size.is)
+returns-in-Size-clause-reads c = rw c.into_inner-result.ensures (r_same (r_ref (r_more (one_of inquiries) (c.in_ok-at.ensures.reads inquiry_class inquiries c.at_inquiry.ensures) (r_more (word class.LeftParen) c.in_ok-rest.ensures.reads (r_end (r_deeper c.in_ok-result.ensures.reads) c.in_ok-rest-2.ensures.reads)))) (ap (λ (i : Inquiry). node grammar.CommunicatorCall (leaf (inquiry_class i) value.Nothing c.in_ok-at.at (expression_tree c.in_ok-result.result)) none) c.in-Size.is))

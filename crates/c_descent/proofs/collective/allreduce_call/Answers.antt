@@ -19,4 +19,4 @@ pub returns-in_err-rest-2-clause-reads : goal.returns-in_err-rest-2-clause-reads
 returns-in_err-rest-2-clause-reads c = passed_on _ _ _ _ _ _ _ c.from_residual-in_err-rest-2.ensures.1 (fails_from _ (λ k z h. f_ref (f_more (placed (class.Mpi call.Allreduce) ⊳ word class.LeftParen) c.in_ok-at.ensures.reads (f_second (r_deeper (r_more (e ⊳ comma ⊳ Ref grammar.Buffer ⊳ comma ⊳ operation) c.in_ok-arguments.ensures.reads c.in_ok-rest.ensures.reads)) h))) c.in_err-rest-2.ensures.reads)
 
 pub returns-clause-reads : goal.returns-clause-reads
-returns-clause-reads c = r_ref (r_more (placed (class.Mpi call.Allreduce) ⊳ word class.LeftParen) c.in_ok-at.ensures.reads (r_end (r_deeper (r_more_end (e ⊳ comma ⊳ Ref grammar.Buffer ⊳ comma ⊳ operation) c.in_ok-arguments.ensures.reads c.in_ok-rest.ensures.reads)) c.in_ok-rest-2.ensures.reads))
+returns-clause-reads c = rw c.into_inner.ensures (r_ref (r_more (placed (class.Mpi call.Allreduce) ⊳ word class.LeftParen) c.in_ok-at.ensures.reads (r_end (r_deeper (r_more_end (e ⊳ comma ⊳ Ref grammar.Buffer ⊳ comma ⊳ operation) c.in_ok-arguments.ensures.reads c.in_ok-rest.ensures.reads)) c.in_ok-rest-2.ensures.reads)))

@@ -23,4 +23,4 @@ pub returns-in_err-rest-2-clause-reads : goal.returns-in_err-rest-2-clause-reads
 returns-in_err-rest-2-clause-reads c = passed_on _ _ _ _ _ _ _ c.from_residual-in_err-rest-2.ensures.1 (fails_from _ (λ k z h. f_ref (f_more (one_of distributions) (c.in_ok-at.ensures.reads distribution_class distributions c.at_distribution.ensures) (f_more (word class.LeftParen) c.in_ok-rest.ensures.reads (f_second (r_deeper (r_more (Ref grammar.Buffer ⊳ comma ⊳ Ref grammar.Buffer) c.in_ok-buffers.ensures.reads c.in_ok-root.ensures.reads)) h)))) c.in_err-rest-2.ensures.reads)
 
 pub returns-clause-reads : goal.returns-clause-reads
-returns-clause-reads c = r_same (r_ref (r_more (one_of distributions) (c.in_ok-at.ensures.reads distribution_class distributions c.at_distribution.ensures) (r_more (word class.LeftParen) c.in_ok-rest.ensures.reads (r_end (r_deeper (r_more (Ref grammar.Buffer ⊳ comma ⊳ Ref grammar.Buffer) c.in_ok-buffers.ensures.reads c.in_ok-root.ensures.reads)) c.in_ok-rest-2.ensures.reads)))) (sym c.distributed-call.ensures)
+returns-clause-reads c = r_same (r_ref (r_more (one_of distributions) (c.in_ok-at.ensures.reads distribution_class distributions c.at_distribution.ensures) (r_more (word class.LeftParen) c.in_ok-rest.ensures.reads (r_end (r_deeper (r_more (Ref grammar.Buffer ⊳ comma ⊳ Ref grammar.Buffer) c.in_ok-buffers.ensures.reads c.in_ok-root.ensures.reads)) c.in_ok-rest-2.ensures.reads)))) (rw (sym c.into_inner.ensures) (sym c.distributed-call.ensures))

@@ -23,4 +23,4 @@ pub returns-in_err-rest-clause-reads : goal.returns-in_err-rest-clause-reads
 returns-in_err-rest-clause-reads c = passed_on _ _ _ _ _ _ _ c.from_residual-in_err-rest.ensures.1 (fails_from _ (λ k z h. f_ref (f_more (placed (class.Mpi call.Reduce) ⊳ word class.LeftParen) c.in_ok-at.ensures.reads (f_second (r_deeper (r_more (e ⊳ comma ⊳ Ref grammar.Buffer ⊳ comma ⊳ operation) c.in_ok-arguments.ensures.reads c.in_ok-root.ensures.reads)) h))) c.in_err-rest.ensures.reads)
 
 pub returns-clause-reads : goal.returns-clause-reads
-returns-clause-reads c = r_same (r_ref (r_more (placed (class.Mpi call.Reduce) ⊳ word class.LeftParen) c.in_ok-at.ensures.reads (r_end (r_deeper (r_more (e ⊳ comma ⊳ Ref grammar.Buffer ⊳ comma ⊳ operation) c.in_ok-arguments.ensures.reads c.in_ok-root.ensures.reads)) c.in_ok-rest.ensures.reads))) (ap (λ (f : Forest). node grammar.ReduceCall (leaf (class.Mpi call.Reduce) value.Nothing c.in_ok-at.at f) none) (forest_assoc (expression_tree c.in_ok-arguments.arguments.send) (buffer_tree c.in_ok-arguments.arguments.receive +++ reduction_row c.in_ok-arguments.arguments.operation) (expression_tree c.in_ok-root.root)))
+returns-clause-reads c = rw (c.into_inner.ensures, c.into_inner-2.ensures) (r_same (r_ref (r_more (placed (class.Mpi call.Reduce) ⊳ word class.LeftParen) c.in_ok-at.ensures.reads (r_end (r_deeper (r_more (e ⊳ comma ⊳ Ref grammar.Buffer ⊳ comma ⊳ operation) c.in_ok-arguments.ensures.reads c.in_ok-root.ensures.reads)) c.in_ok-rest.ensures.reads))) (ap (λ (f : Forest). node grammar.ReduceCall (leaf (class.Mpi call.Reduce) value.Nothing c.in_ok-at.at f) none) (forest_assoc (expression_tree c.in_ok-arguments.arguments.send) (buffer_tree c.in_ok-arguments.arguments.receive +++ reduction_row c.in_ok-arguments.arguments.operation) (expression_tree c.in_ok-root.root))))

@@ -84,7 +84,7 @@ pub links-links-preserved : goal.links-links-preserved
 links-links-preserved t c =
     let q : next_in (operators c.args.grade) c.links.rest.now ≡ true = cc in
     record {
-      past = past_same (past_step c.links.invariant.past q (r_seq c.in_ok-operator.ensures.reads c.in_ok-operand.ensures.reads)) (row_push (link_row shape c.args.grade) _ _ _ c.in_ok-push.ensures.ok);
+      past = past_same (past_step c.links.invariant.past q (r_seq c.in_ok-operator.ensures.reads c.in_ok-operand.ensures.reads)) (row_push (link_row shape c.args.grade) _ _ (record { operator = c.in_ok-operator.operator; operand = c.in_ok-operand.operand }) (rw (sym c.into_inner.ensures) c.in_ok-push.ensures.ok));
       grade = subst (λ (xs : List (Link Expr)). FirstOf c.args.grade xs) (sym c.in_ok-push.ensures.ok) (first_push c.args.grade _ _ c.links.invariant.grade c.in_ok-operator.ensures.grade);
       shorter = omega (arith, c.links.invariant.shorter, c.in_ok-operator.ensures.shorter, c.in_ok-operand.ensures.shorter);
     }
@@ -152,7 +152,7 @@ constant-returns-in_err-base-clause-reads t c =
 pub named-returns-then-not-next_is-clause-reads : goal.named-returns-then-not-next_is-clause-reads
 named-returns-then-not-next_is-clause-reads t c =
     let q : next_in (class.LeftParen ∷ []) c.in_ok-name.rest.now ≡ false = cc in
-    more_after _ _ _ (name_row c.in_ok-name.name) c.suffixes.result (ap (λ (s : Shape). s.row) c.variable.ensures)
+    more_after _ _ _ (name_row c.in_ok-name.name) c.suffixes.result (ap (λ (s : Shape). s.row) c.in_ok-base.ensures)
     (λ g zs h. r_seq c.in_ok-name.ensures.reads (r_seq (r_no q) h))
     (λ k zs h. f_second c.in_ok-name.ensures.reads (f_second (r_no q) h))
     c.suffixes.ensures.reads
@@ -160,7 +160,7 @@ named-returns-then-not-next_is-clause-reads t c =
 pub named-returns-clause-reads : goal.named-returns-clause-reads
 named-returns-clause-reads t c =
     let q : next_in (class.LeftParen ∷ []) c.in_ok-name.rest.now ≡ true = cc in
-    more_after _ _ _ (name_row c.in_ok-name.name +++ node grammar.Arguments (each expression_tree c.in_ok-arguments.arguments) none) c.suffixes-2.result (ap (λ (s : Shape). s.row) c.call.ensures)
+    more_after _ _ _ (name_row c.in_ok-name.name +++ node grammar.Arguments (each expression_tree c.in_ok-arguments.arguments) none) c.suffixes-2.result (ap (λ (s : Shape). s.row) c.in_ok-base-2.ensures)
     (λ g zs h. r_seq c.in_ok-name.ensures.reads (r_seq (r_yes q c.in_ok-arguments.ensures.reads) h))
     (λ k zs h. f_second c.in_ok-name.ensures.reads (f_second (r_yes q c.in_ok-arguments.ensures.reads) h))
     c.suffixes-2.ensures.reads
@@ -193,7 +193,7 @@ arguments-returns-in_err-rest-2-clause-reads t c =
 pub argument_list-returns-clause-reads : goal.argument_list-returns-clause-reads
 argument_list-returns-clause-reads t c =
     let q : starts (grammar.Ref grammar.Expression) c.args.tokens.now ≡ true = cc in
-    more_after _ _ _ (expression_tree c.in_ok-first.first) c.more_arguments.result (row_one expression_tree c.new-arguments.result _ _ c.new-arguments.ensures c.in_ok-push.ensures.ok)
+    more_after _ _ _ (expression_tree c.in_ok-first.first) c.more_arguments.result (row_one expression_tree c.new-arguments.result _ c.in_ok-first.first c.new-arguments.ensures (rw (sym c.into_inner.ensures) c.in_ok-push.ensures.ok))
     (λ g zs h. r_yes q (r_seq c.in_ok-first.ensures.reads h))
     (λ k zs h. r_yes q (f_second c.in_ok-first.ensures.reads h))
     c.more_arguments.ensures.reads
@@ -226,7 +226,7 @@ pub more_arguments-arguments-preserved : goal.more_arguments-arguments-preserved
 more_arguments-arguments-preserved t c =
     let q : next_in (class.Comma ∷ []) c.arguments.rest.now ≡ true = cc in
     record {
-      past = (_, row_more _ _ c.arguments.invariant.past.0 (expression_tree c.in_ok-argument.argument) _ (row_push expression_tree _ _ _ c.in_ok-push.ensures.ok) c.arguments.invariant.past.1, past_step c.arguments.invariant.past.2 q (r_skip c.in_ok-after.ensures.reads c.in_ok-argument.ensures.reads));
+      past = (_, row_more _ _ c.arguments.invariant.past.0 (expression_tree c.in_ok-argument.argument) _ (row_push expression_tree _ _ c.in_ok-argument.argument (rw (sym c.into_inner.ensures) c.in_ok-push.ensures.ok)) c.arguments.invariant.past.1, past_step c.arguments.invariant.past.2 q (r_skip c.in_ok-after.ensures.reads c.in_ok-argument.ensures.reads));
       shorter = omega (arith, c.arguments.invariant.shorter, c.in_ok-after.ensures.shorter, c.in_ok-argument.ensures.shorter);
     }
 

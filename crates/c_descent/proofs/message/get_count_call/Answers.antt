@@ -15,4 +15,4 @@ pub returns-in_err-rest-clause-reads : goal.returns-in_err-rest-clause-reads
 returns-in_err-rest-clause-reads c = passed_on _ _ _ _ _ _ _ c.from_residual-in_err-rest.ensures.1 (fails_from _ (λ k z h. f_ref (f_more (placed (class.Mpi call.GetCount) ⊳ word class.LeftParen) c.in_ok-at.ensures.reads (f_second (r_deeper c.in_ok-status.ensures.reads) h))) c.in_err-rest.ensures.reads)
 
 pub returns-clause-reads : goal.returns-clause-reads
-returns-clause-reads c = r_ref (r_more (placed (class.Mpi call.GetCount) ⊳ word class.LeftParen) c.in_ok-at.ensures.reads (r_end (r_deeper c.in_ok-status.ensures.reads) c.in_ok-rest.ensures.reads))
+returns-clause-reads c = rw c.into_inner.ensures (r_ref (r_more (placed (class.Mpi call.GetCount) ⊳ word class.LeftParen) c.in_ok-at.ensures.reads (r_end (r_deeper c.in_ok-status.ensures.reads) c.in_ok-rest.ensures.reads)))

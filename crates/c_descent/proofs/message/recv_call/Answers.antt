@@ -23,4 +23,4 @@ pub returns-in_err-rest-clause-reads : goal.returns-in_err-rest-clause-reads
 returns-in_err-rest-clause-reads c = passed_on _ _ _ _ _ _ _ c.from_residual-in_err-rest.ensures.1 (fails_from _ (λ k z h. f_ref (f_more (placed (class.Mpi call.Recv) ⊳ word class.LeftParen) c.in_ok-at.ensures.reads (f_second (r_deeper (r_more (Ref grammar.Buffer ⊳ comma ⊳ e ⊳ comma ⊳ e ⊳ comma ⊳ world) c.in_ok-message.ensures.reads c.in_ok-status.ensures.reads)) h))) c.in_err-rest.ensures.reads)
 
 pub returns-clause-reads : goal.returns-clause-reads
-returns-clause-reads c = r_same (r_ref (r_more (placed (class.Mpi call.Recv) ⊳ word class.LeftParen) c.in_ok-at.ensures.reads (r_end (r_deeper (r_more (Ref grammar.Buffer ⊳ comma ⊳ e ⊳ comma ⊳ e ⊳ comma ⊳ world) c.in_ok-message.ensures.reads c.in_ok-status.ensures.reads)) c.in_ok-rest.ensures.reads))) (ap (λ (f : Forest). node grammar.RecvCall (leaf (class.Mpi call.Recv) value.Nothing c.in_ok-at.at (buffer_tree c.in_ok-message.message.buffer +++ f)) none) (forest_assoc (expression_tree c.in_ok-message.message.process) (expression_tree c.in_ok-message.message.tag) (status_tree c.in_ok-status.status)))
+returns-clause-reads c = rw (c.into_inner.ensures, c.into_inner-2.ensures) (r_same (r_ref (r_more (placed (class.Mpi call.Recv) ⊳ word class.LeftParen) c.in_ok-at.ensures.reads (r_end (r_deeper (r_more (Ref grammar.Buffer ⊳ comma ⊳ e ⊳ comma ⊳ e ⊳ comma ⊳ world) c.in_ok-message.ensures.reads c.in_ok-status.ensures.reads)) c.in_ok-rest.ensures.reads))) (ap (λ (f : Forest). node grammar.RecvCall (leaf (class.Mpi call.Recv) value.Nothing c.in_ok-at.at (buffer_tree c.in_ok-message.message.buffer +++ f)) none) (forest_assoc (expression_tree c.in_ok-message.message.process) (expression_tree c.in_ok-message.message.tag) (status_tree c.in_ok-status.status))))

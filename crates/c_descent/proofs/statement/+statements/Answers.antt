@@ -7,10 +7,10 @@ use Rattle.c_grammar.specs.Grammar.{Ref, BlockItem, ElsePart, TypeSpecifier}
 use Rattle.c_grammar.specs.Meaning.{next_in, node, none, starts}
 use Rattle.c_grammar.specs.Trees.{statement_row, statement_tree}
 use Rattle.c_grammar.proofs.Grades.{each_push}
-use Rattle.c_grammar.proofs.Views.{row_block}
+use Rattle.c_grammar.proofs.Views.{row_block, row_for}
 use Rattle.c_descent.proofs.StatementChoices.{at_block, at_do, at_for, at_while, no_holder, passing}
 use Rattle.c_descent.proofs.StatementChains.{chain_end, chain_start, chain_step}
-use Rattle.c_descent.proofs.StatementShapes.{do_shape, for_shape, if_shape, while_shape}
+use Rattle.c_descent.proofs.StatementShapes.{do_shape, if_shape, while_shape}
 use Rattle.c_grammar.proofs.Steps.{fails_from, r_seq, r_end, r_same, r_ref, f_ref, f_first, f_second, r_left, r_right, r_no, r_yes, r_deeper, past_start, past_step, past_stop, past_fault}
 use Rattle.c_descent.proofs.statement.+statements.Goals as goal
 
@@ -54,16 +54,16 @@ block_item-returns-in_err-variables-clause-reads t c =
     let w = err_from_is_err_and c.from_residual.result c.from_residual.ensures.1 in
     rw (w.1, w.2) (fails_from _ (λ k z h. f_ref (r_left q (f_first h))) c.in_err-variables.ensures.reads)
 
-pub block_item-returns-in_err-rest-clause-reads : goal.block_item-returns-in_err-rest-clause-reads
-block_item-returns-in_err-rest-clause-reads t c =
+pub block_item-returns-in_err-variables-2-clause-reads : goal.block_item-returns-in_err-variables-2-clause-reads
+block_item-returns-in_err-variables-2-clause-reads t c =
     let q : starts (Ref TypeSpecifier) c.args.tokens.now ≡ true = cc in
-    let w = err_from_is_err_and c.from_residual-in_err-rest.result c.from_residual-in_err-rest.ensures.1 in
-    rw (w.1, w.2) (fails_from _ (λ k z h. f_ref (r_left q (f_second c.in_ok-variables.ensures.reads h))) c.in_err-rest.ensures.reads)
+    let w = err_from_is_err_and c.from_residual-in_err-variables-2.result c.from_residual-in_err-variables-2.ensures.1 in
+    rw (w.1, w.2) (fails_from _ (λ k z h. f_ref (r_left q (f_second c.in_ok-variables.ensures.reads h))) c.in_err-variables-2.ensures.reads)
 
 pub block_item-returns-then-at_type-clause-reads : goal.block_item-returns-then-at_type-clause-reads
 block_item-returns-then-at_type-clause-reads t c =
     let q : starts (Ref TypeSpecifier) c.args.tokens.now ≡ true = cc in
-    r_ref (r_left q (r_end c.in_ok-variables.ensures.reads c.in_ok-rest.ensures.reads))
+    rw c.in_ok-variables-2.ensures.same (r_ref (r_left q (r_end c.in_ok-variables.ensures.reads c.in_ok-variables-2.ensures.reads)))
 
 pub block_item-returns-in_err-action-clause-reads : goal.block_item-returns-in_err-action-clause-reads
 block_item-returns-in_err-action-clause-reads t c =
@@ -108,7 +108,16 @@ statement-returns-in_err-arms-clause-reads t c =
 pub statement-returns-clause-reads : goal.statement-returns-clause-reads
 statement-returns-clause-reads t c =
     let q : next_in (class.If ∷ []) c.args.tokens.now ≡ true = cc in
-    r_same (r_ref (r_left q (r_ref (r_seq c.in_ok-at.ensures.reads (r_seq c.in_ok-test.ensures.reads (r_seq (r_deeper c.in_ok-then.ensures.reads) c.in_ok-arms.ensures.reads)))))) (if_shape _ c.in_ok-test.test c.in_ok-then.then c.in_ok-then-2.then c.in_ok-arms.arms c.in_ok-arms.otherwise c.in_ok-then-2.ensures)
+    r_same (r_ref (r_left q (r_ref (r_seq c.in_ok-at.ensures.reads (r_seq c.in_ok-test.ensures.reads (r_seq (r_deeper c.in_ok-then.ensures.reads) c.in_ok-arms.ensures.reads)))))) (if_shape _ c.in_ok-test.test c.into_inner.result c.in_ok-then.then c.in_ok-arms.arms c.in_ok-arms.otherwise c.into_inner.ensures)
+
+pub boxed_statement-returns-in_err-action-clause-reads : goal.boxed_statement-returns-in_err-action-clause-reads
+boxed_statement-returns-in_err-action-clause-reads t c =
+    let w = err_from_is_err_and c.from_residual.result c.from_residual.ensures.1 in
+    rw (w.1, w.2) (fails_from _ (λ k z h. h) c.in_err-action.ensures.reads)
+
+pub boxed_statement-returns-clause-reads : goal.boxed_statement-returns-clause-reads
+boxed_statement-returns-clause-reads t c =
+    r_same c.in_ok-action.ensures.reads (ap (λ (s : Stmt). statement_tree (statement_row s)) (sym c.in_ok-action-2.ensures))
 
 pub else_part-returns-in_err-after-clause-reads : goal.else_part-returns-in_err-after-clause-reads
 else_part-returns-in_err-after-clause-reads t c =
@@ -159,7 +168,7 @@ else_part-arms-preserved t c =
     let p : next_in (class.Else ∷ []) c.arms.rest.now ≡ true = cc in
     let q : next_in (class.If ∷ []) c.in_ok-after.after.now ≡ true = cc in
     record {
-      past = chain_step c.args.level c.args.tokens.now c.arms.rest.now c.in_ok-then.after.now c.arms.arms c.push.new.self (record { test = c.in_ok-test.test; then = c.in_ok-then.then }) c.in_ok-push.ensures.ok c.arms.invariant.past (record {
+      past = chain_step c.args.level c.args.tokens.now c.arms.rest.now c.in_ok-then.after.now c.arms.arms c.push.new.self (record { test = c.in_ok-test.test; then = c.in_ok-then.then }) (rw (sym c.into_inner-test.ensures) c.in_ok-push.ensures.ok) c.arms.invariant.past (record {
         reads = λ more last zs h. r_ref (r_yes p (r_seq c.in_ok-after.ensures.reads (r_left q (r_seq c.in_ok-after-2.ensures.reads (r_seq c.in_ok-test.ensures.reads (r_seq (r_deeper c.in_ok-then.ensures.reads) h))))));
         fails = λ k z h. f_ref (r_yes p (f_second c.in_ok-after.ensures.reads (r_left q (f_second c.in_ok-after-2.ensures.reads (f_second c.in_ok-test.ensures.reads (f_second (r_deeper c.in_ok-then.ensures.reads) h))))));
       });
@@ -222,7 +231,7 @@ while_statement-returns-in_err-body-clause-reads t c q =
 
 pub while_statement-returns-clause-reads : goal.while_statement-returns-clause-reads
 while_statement-returns-clause-reads t c q =
-    r_same (r_ref (at_while q (r_ref (r_seq c.in_ok-at.ensures.reads (r_seq c.in_ok-test.ensures.reads (r_deeper c.in_ok-body.ensures.reads)))))) (while_shape _ c.in_ok-test.test c.in_ok-body.body c.in_ok-body-2.body c.in_ok-body-2.ensures)
+    r_same (r_ref (at_while q (r_ref (r_seq c.in_ok-at.ensures.reads (r_seq c.in_ok-test.ensures.reads (r_deeper c.in_ok-body.ensures.reads)))))) (while_shape _ c.in_ok-test.test c.into_inner-test.result c.in_ok-body.body c.into_inner-test.ensures)
 
 pub do_statement-returns-in_err-at-clause-reads : goal.do_statement-returns-in_err-at-clause-reads
 do_statement-returns-in_err-at-clause-reads t c q =
@@ -241,23 +250,23 @@ do_statement-returns-in_err-test-clause-reads t c q =
 
 pub do_statement-returns-clause-reads : goal.do_statement-returns-clause-reads
 do_statement-returns-clause-reads t c q =
-    r_same (r_ref (at_do q (r_ref (r_seq c.in_ok-at.ensures.reads (r_seq (r_deeper c.in_ok-body.ensures.reads) c.in_ok-test.ensures.reads))))) (do_shape _ c.in_ok-body.body c.in_ok-body-2.body c.in_ok-test.test c.in_ok-body-2.ensures)
+    r_same (r_ref (at_do q (r_ref (r_seq c.in_ok-at.ensures.reads (r_seq (r_deeper c.in_ok-body.ensures.reads) c.in_ok-test.ensures.reads))))) (do_shape _ c.in_ok-body.body c.in_ok-test.test c.into_inner-test.result c.into_inner-test.ensures)
 
 pub for_statement-returns-in_err-at-clause-reads : goal.for_statement-returns-in_err-at-clause-reads
 for_statement-returns-in_err-at-clause-reads t c q =
     let w = err_from_is_err_and c.from_residual.result c.from_residual.ensures.1 in
     rw (w.1, w.2) (fails_from _ (λ k z h. f_ref (at_for q (f_ref (f_first h)))) c.in_err-at.ensures.reads)
 
-pub for_statement-returns-in_err-start-clause-reads : goal.for_statement-returns-in_err-start-clause-reads
-for_statement-returns-in_err-start-clause-reads t c q =
-    let w = err_from_is_err_and c.from_residual-in_err-start.result c.from_residual-in_err-start.ensures.1 in
-    rw (w.1, w.2) (fails_from _ (λ k z h. f_ref (at_for q (f_ref (f_second c.in_ok-at.ensures.reads (f_first h))))) c.in_err-start.ensures.reads)
+pub for_statement-returns-in_err-clauses-clause-reads : goal.for_statement-returns-in_err-clauses-clause-reads
+for_statement-returns-in_err-clauses-clause-reads t c q =
+    let w = err_from_is_err_and c.from_residual-in_err-clauses.result c.from_residual-in_err-clauses.ensures.1 in
+    rw (w.1, w.2) (fails_from _ (λ k z h. f_ref (at_for q (f_ref (f_second c.in_ok-at.ensures.reads (f_first h))))) c.in_err-clauses.ensures.reads)
 
 pub for_statement-returns-in_err-body-clause-reads : goal.for_statement-returns-in_err-body-clause-reads
 for_statement-returns-in_err-body-clause-reads t c q =
     let w = err_from_is_err_and c.from_residual-in_err-body.result c.from_residual-in_err-body.ensures.1 in
-    rw (w.1, w.2) (fails_from _ (λ k z h. f_ref (at_for q (f_ref (f_second c.in_ok-at.ensures.reads (f_second c.in_ok-start.ensures.reads (r_deeper h)))))) c.in_err-body.ensures.reads)
+    rw (w.1, w.2) (fails_from _ (λ k z h. f_ref (at_for q (f_ref (f_second c.in_ok-at.ensures.reads (f_second c.in_ok-clauses.ensures.reads (r_deeper h)))))) c.in_err-body.ensures.reads)
 
 pub for_statement-returns-clause-reads : goal.for_statement-returns-clause-reads
 for_statement-returns-clause-reads t c q =
-    r_same (r_ref (at_for q (r_ref (r_seq c.in_ok-at.ensures.reads (r_seq c.in_ok-start.ensures.reads (r_deeper c.in_ok-body.ensures.reads)))))) (for_shape _ c.in_ok-start.start c.in_ok-start.test c.in_ok-start.step c.in_ok-body.body c.in_ok-body-2.body c.in_ok-body-2.ensures)
+    rw (c.unboxed.ensures, c.unboxed-2.ensures, c.into_inner-start.ensures) (r_same (r_ref (at_for q (r_ref (r_seq c.in_ok-at.ensures.reads (r_seq c.in_ok-clauses.ensures.reads (r_deeper c.in_ok-body.ensures.reads)))))) (sym (row_for c.in_ok-at.at c.in_ok-clauses.clauses.start c.in_ok-clauses.clauses.test c.in_ok-clauses.clauses.step c.in_ok-body.body)))

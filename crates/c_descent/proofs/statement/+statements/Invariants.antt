@@ -15,6 +15,9 @@ decreases-block_item l = (limit + 1 - l.level) * 16 + 4
 abbrev pub decreases-statement : goal.decreases-statement
 decreases-statement l = (limit + 1 - l.level) * 16 + 3
 
+abbrev pub decreases-boxed_statement : goal.decreases-boxed_statement
+decreases-boxed_statement l = (limit + 1 - l.level) * 16 + 4
+
 abbrev pub decreases-else_part : goal.decreases-else_part
 decreases-else_part l = (limit + 1 - l.level) * 16 + 1
 

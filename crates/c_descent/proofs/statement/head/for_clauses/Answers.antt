@@ -7,36 +7,16 @@ returns-in_err-rest-clause-reads c =
     let w = err_from_is_err_and c.from_residual.result c.from_residual.ensures.1 in
     rw (w.1, w.2) (fails_from _ (λ k z h. f_first h) c.in_err-rest.ensures.reads)
 
-pub returns-in_err-start-clause-reads : goal.returns-in_err-start-clause-reads
-returns-in_err-start-clause-reads c =
-    let w = err_from_is_err_and c.from_residual-in_err-start.result c.from_residual-in_err-start.ensures.1 in
-    rw (w.1, w.2) (fails_from _ (λ k z h. f_second c.in_ok-rest.ensures.reads (f_first (r_deeper (f_first h)))) c.in_err-start.ensures.reads)
+pub returns-in_err-clauses-clause-reads : goal.returns-in_err-clauses-clause-reads
+returns-in_err-clauses-clause-reads c =
+    let w = err_from_is_err_and c.from_residual-in_err-clauses.result c.from_residual-in_err-clauses.ensures.1 in
+    rw (w.1, w.2) (fails_from _ (λ k z h. f_second c.in_ok-rest.ensures.reads (f_first (r_deeper h))) c.in_err-clauses.ensures.reads)
 
-pub returns-in_err-rest-2-clause-reads : goal.returns-in_err-rest-2-clause-reads
-returns-in_err-rest-2-clause-reads c =
-    let w = err_from_is_err_and c.from_residual-in_err-rest-2.result c.from_residual-in_err-rest-2.ensures.1 in
-    rw (w.1, w.2) (fails_from _ (λ k z h. f_second c.in_ok-rest.ensures.reads (f_first (r_deeper (f_second c.in_ok-start.ensures.reads (f_first h))))) c.in_err-rest-2.ensures.reads)
-
-pub returns-in_err-test-clause-reads : goal.returns-in_err-test-clause-reads
-returns-in_err-test-clause-reads c =
-    let w = err_from_is_err_and c.from_residual-in_err-test.result c.from_residual-in_err-test.ensures.1 in
-    rw (w.1, w.2) (fails_from _ (λ k z h. f_second c.in_ok-rest.ensures.reads (f_first (r_deeper (f_second c.in_ok-start.ensures.reads (f_second c.in_ok-rest-2.ensures.reads (f_first h)))))) c.in_err-test.ensures.reads)
-
-pub returns-in_err-rest-3-clause-reads : goal.returns-in_err-rest-3-clause-reads
-returns-in_err-rest-3-clause-reads c =
-    let w = err_from_is_err_and c.from_residual-in_err-rest-3.result c.from_residual-in_err-rest-3.ensures.1 in
-    rw (w.1, w.2) (fails_from _ (λ k z h. f_second c.in_ok-rest.ensures.reads (f_first (r_deeper (f_second c.in_ok-start.ensures.reads (f_second c.in_ok-rest-2.ensures.reads (f_second c.in_ok-test.ensures.reads (f_first h))))))) c.in_err-rest-3.ensures.reads)
-
-pub returns-in_err-step-clause-reads : goal.returns-in_err-step-clause-reads
-returns-in_err-step-clause-reads c =
-    let w = err_from_is_err_and c.from_residual-in_err-step.result c.from_residual-in_err-step.ensures.1 in
-    rw (w.1, w.2) (fails_from _ (λ k z h. f_second c.in_ok-rest.ensures.reads (f_first (r_deeper (f_second c.in_ok-start.ensures.reads (f_second c.in_ok-rest-2.ensures.reads (f_second c.in_ok-test.ensures.reads (f_second c.in_ok-rest-3.ensures.reads h))))))) c.in_err-step.ensures.reads)
-
-pub returns-in_err-rest-4-clause-reads : goal.returns-in_err-rest-4-clause-reads
-returns-in_err-rest-4-clause-reads c =
-    let w = err_from_is_err_and c.from_residual-in_err-rest-4.result c.from_residual-in_err-rest-4.ensures.1 in
-    rw (w.1, w.2) (fails_from _ (λ k z h. f_second c.in_ok-rest.ensures.reads (f_second (r_deeper (r_seq c.in_ok-start.ensures.reads (r_seq c.in_ok-rest-2.ensures.reads (r_seq c.in_ok-test.ensures.reads (r_seq c.in_ok-rest-3.ensures.reads c.in_ok-step.ensures.reads))))) h)) c.in_err-rest-4.ensures.reads)
+pub returns-in_err-clauses-2-clause-reads : goal.returns-in_err-clauses-2-clause-reads
+returns-in_err-clauses-2-clause-reads c =
+    let w = err_from_is_err_and c.from_residual-in_err-clauses-2.result c.from_residual-in_err-clauses-2.ensures.1 in
+    rw (w.1, w.2) (fails_from _ (λ k z h. f_second c.in_ok-rest.ensures.reads (f_second (r_deeper c.in_ok-clauses.ensures.reads) h)) c.in_err-clauses-2.ensures.reads)
 
 pub returns-clause-reads : goal.returns-clause-reads
 returns-clause-reads c =
-    r_seq c.in_ok-rest.ensures.reads (r_end (r_deeper (r_seq c.in_ok-start.ensures.reads (r_seq c.in_ok-rest-2.ensures.reads (r_seq c.in_ok-test.ensures.reads (r_seq c.in_ok-rest-3.ensures.reads c.in_ok-step.ensures.reads))))) c.in_ok-rest-4.ensures.reads)
+    rw c.in_ok-clauses-2.ensures.same (r_seq c.in_ok-rest.ensures.reads (r_end (r_deeper c.in_ok-clauses.ensures.reads) c.in_ok-clauses-2.ensures.reads))

@@ -10,11 +10,11 @@ returns-in_err-call-clause-reads c q =
     let w = err_from_is_err_and c.from_residual.result c.from_residual.ensures.1 in
     rw (w.1, w.2) (fails_from _ (λ k z h. f_ref (at_call q (f_first h))) c.in_err-call.ensures.reads)
 
-pub returns-in_err-rest-clause-reads : goal.returns-in_err-rest-clause-reads
-returns-in_err-rest-clause-reads c q =
-    let w = err_from_is_err_and c.from_residual-in_err-rest.result c.from_residual-in_err-rest.ensures.1 in
-    rw (w.1, w.2) (fails_from _ (λ k z h. f_ref (at_call q (f_second c.in_ok-call.ensures.reads h))) c.in_err-rest.ensures.reads)
+pub returns-in_err-call-2-clause-reads : goal.returns-in_err-call-2-clause-reads
+returns-in_err-call-2-clause-reads c q =
+    let w = err_from_is_err_and c.from_residual-in_err-call-2.result c.from_residual-in_err-call-2.ensures.1 in
+    rw (w.1, w.2) (fails_from _ (λ k z h. f_ref (at_call q (f_second c.in_ok-call.ensures.reads h))) c.in_err-call-2.ensures.reads)
 
 pub returns-clause-reads : goal.returns-clause-reads
 returns-clause-reads c q =
-    r_same (r_ref (at_call q (r_end c.in_ok-call.ensures.reads c.in_ok-rest.ensures.reads))) (sym (row_mpi c.in_ok-call.call))
+    rw c.in_ok-call-2.ensures.same (r_same (r_ref (at_call q (r_end c.in_ok-call.ensures.reads c.in_ok-call-2.ensures.reads))) (sym (row_mpi c.in_ok-call.call)))

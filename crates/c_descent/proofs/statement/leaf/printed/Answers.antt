@@ -26,7 +26,7 @@ pub arguments-preserved : goal.arguments-preserved
 arguments-preserved c =
     let q : next_in (class.Comma ∷ []) c.arguments.rest.now ≡ true = cc in
     record {
-      past = rw (c.in_ok-push.ensures.ok, each_push) (past_step c.arguments.invariant.past q (r_seq c.in_ok-after.ensures.reads c.in_ok-argument.ensures.reads));
+      past = rw (c.in_ok-push.ensures.ok, each_push, c.into_inner.ensures) (past_step c.arguments.invariant.past q (r_seq c.in_ok-after.ensures.reads c.in_ok-argument.ensures.reads));
       shorter = omega (arith, c.arguments.invariant.shorter, c.in_ok-after.ensures.shorter, c.in_ok-argument.ensures.shorter);
     }
 

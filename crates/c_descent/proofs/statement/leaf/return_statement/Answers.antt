@@ -22,4 +22,4 @@ returns-in_err-rest-clause-reads c q =
 
 pub returns-clause-reads : goal.returns-clause-reads
 returns-clause-reads c q =
-    r_same (r_ref (at_return q (r_ref (r_seq c.in_ok-at.ensures.reads (r_end c.in_ok-value.ensures.reads c.in_ok-rest.ensures.reads))))) (sym (row_return c.in_ok-at.at c.in_ok-value.value))
+    rw c.unboxed-value.ensures (r_same (r_ref (at_return q (r_ref (r_seq c.in_ok-at.ensures.reads (r_end c.in_ok-value.ensures.reads c.in_ok-rest.ensures.reads))))) (sym (row_return c.in_ok-at.at c.in_ok-value.value)))

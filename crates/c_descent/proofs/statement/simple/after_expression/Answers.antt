@@ -8,4 +8,4 @@ use Rattle.c_descent.proofs.statement.simple.after_expression.Goals as goal
 pub returns-then-is_assignment-clause-reads : goal.returns-then-is_assignment-clause-reads
 returns-then-is_assignment-clause-reads c =
     let p : next_in assignments c.in_ok-place.rest.now ≡ true = cc in
-    r_seq c.in_ok-place.ensures.reads (maybe_left p (r_seq c.in_ok-at.ensures.reads c.in_ok-value.ensures.reads))
+    rw (c.into_inner.ensures, c.into_inner-then-is_assignment.ensures) (r_seq c.in_ok-place.ensures.reads (maybe_left p (r_seq c.in_ok-at.ensures.reads c.in_ok-value.ensures.reads)))
