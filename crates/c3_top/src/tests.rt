@@ -4,6 +4,7 @@ use crate::{Status, c3_top, code};
 use c_tree::Kind;
 use c3_io::{Failed, MemSink, MemSource, Sink, Source};
 use std::alloc::Global;
+use std::process::Abort;
 use std::test::Fail;
 
 mod calls;
@@ -39,6 +40,32 @@ fn answered(alloc: Global, line: &str, input: &[u8]) -> Result<(Status, Vec<u8>)
     let status = c3_top(alloc, &words, &mut source, &mut sink);
     let written = Vec::from_slice(alloc, sink.bytes())?;
     Ok((status, written))
+}
+
+/// A part of a table's line, where `⏎` stands for a line feed and `⇥` for a tab.
+fn push_line(text: &mut String, part: &str) -> Result<(), Fail> {
+    for c in part.chars() {
+        text.push(match c {
+            '⏎' => '\n',
+            '⇥' => '\t',
+            c => c,
+        })?;
+    }
+    Ok(())
+}
+
+/// Each line of the table is an input and, after its `@`, what is written to it.
+fn assert_rows(rt: &impl Abort, alloc: Global, words: &str, table: &str) -> Result<(), Fail> {
+    for line in table.trim().lines() {
+        let (front, back) = line.split_once('@').expect(rt, "a marked line");
+        let mut input = String::new(alloc);
+        push_line(&mut input, front)?;
+        let mut answer = String::new(alloc);
+        push_line(&mut answer, back)?;
+        let (_, written) = answered(alloc, words, input.as_bytes())?;
+        assert_eq!(rt; written.as_slice(), answer.as_bytes(), "at {line}");
+    }
+    Ok(())
 }
 
 #[test]

@@ -1,60 +1,61 @@
 //! Programs that send messages, with what MPI prints, and the calls' tests one by one.
 
-use super::answered;
+use super::{answered, push_line};
 use crate::Status;
 use std::alloc::Global;
+use std::process::Abort;
 use std::test::Fail;
 
 const RING: &str =
-    "int main(int argc,char **argv){int r,n,t=0;MPI_Status st;MPI_Init(&argc,&argv);MPI_Comm_rank(MPI_COMM_WORLD,&r);MPI_Comm_size(MPI_COMM_WORLD,&n);if(r==0){t=100;MPI_Send(&t,1,MPI_INT,(r+1)%n,7,MPI_COMM_WORLD);MPI_Recv(&t,1,MPI_INT,(r+n-1)%n,7,MPI_COMM_WORLD,&st);printf(\"%d from %d\\n\",t,st.MPI_SOURCE);}else{MPI_Recv(&t,1,MPI_INT,r-1,7,MPI_COMM_WORLD,&st);t+=r;MPI_Send(&t,1,MPI_INT,(r+1)%n,7,MPI_COMM_WORLD);}MPI_Finalize();return 0;}";
+    r#"int main(int argc,char **argv){int r,n,t=0;MPI_Status st;MPI_Init(&argc,&argv);MPI_Comm_rank(MPI_COMM_WORLD,&r);MPI_Comm_size(MPI_COMM_WORLD,&n);if(r==0){t=100;MPI_Send(&t,1,MPI_INT,(r+1)%n,7,MPI_COMM_WORLD);MPI_Recv(&t,1,MPI_INT,(r+n-1)%n,7,MPI_COMM_WORLD,&st);printf("%d from %d\n",t,st.MPI_SOURCE);}else{MPI_Recv(&t,1,MPI_INT,r-1,7,MPI_COMM_WORLD,&st);t+=r;MPI_Send(&t,1,MPI_INT,(r+1)%n,7,MPI_COMM_WORLD);}MPI_Finalize();return 0;}"#;
 
 const PIPELINE: &str =
-    "int main(void){int r,n,i;long x;MPI_Init(NULL,NULL);MPI_Comm_rank(MPI_COMM_WORLD,&r);MPI_Comm_size(MPI_COMM_WORLD,&n);for(i=0;i<5;i++){if(r==0)x=i*i;else MPI_Recv(&x,1,MPI_LONG,r-1,i,MPI_COMM_WORLD,MPI_STATUS_IGNORE);x=x*3+r;if(r<n-1)MPI_Send(&x,1,MPI_LONG,r+1,i,MPI_COMM_WORLD);else printf(\"%ld \",x);}if(r==n-1)printf(\"\\n\");MPI_Finalize();return 0;}";
+    r#"int main(void){int r,n,i;long x;MPI_Init(NULL,NULL);MPI_Comm_rank(MPI_COMM_WORLD,&r);MPI_Comm_size(MPI_COMM_WORLD,&n);for(i=0;i<5;i++){if(r==0)x=i*i;else MPI_Recv(&x,1,MPI_LONG,r-1,i,MPI_COMM_WORLD,MPI_STATUS_IGNORE);x=x*3+r;if(r<n-1)MPI_Send(&x,1,MPI_LONG,r+1,i,MPI_COMM_WORLD);else printf("%ld ",x);}if(r==n-1)printf("\n");MPI_Finalize();return 0;}"#;
 
 const WORKERS: &str =
-    "int work(int k){int s=0;while(k>0){s+=k%10;k/=10;}return s;}int main(int argc,char **argv){int r,n,k,w,v,sum=0;MPI_Status st;MPI_Init(&argc,&argv);MPI_Comm_rank(MPI_COMM_WORLD,&r);MPI_Comm_size(MPI_COMM_WORLD,&n);if(r==0){for(k=0;k<9;k++){w=1+k%(n-1);v=k*37+5;MPI_Send(&v,1,MPI_INT,w,1,MPI_COMM_WORLD);}for(w=1;w<n;w++)MPI_Send(NULL,0,MPI_INT,w,2,MPI_COMM_WORLD);for(k=0;k<9;k++){w=1+k%(n-1);MPI_Recv(&v,1,MPI_INT,w,MPI_ANY_TAG,MPI_COMM_WORLD,&st);printf(\"%d:%d \",w,v);sum+=v;}printf(\"= %d\\n\",sum);}else{while(1){MPI_Recv(&v,1,MPI_INT,0,MPI_ANY_TAG,MPI_COMM_WORLD,&st);if(st.MPI_TAG==2)break;v=work(v);MPI_Send(&v,1,MPI_INT,0,3,MPI_COMM_WORLD);}}MPI_Finalize();return 0;}";
+    r#"int work(int k){int s=0;while(k>0){s+=k%10;k/=10;}return s;}int main(int argc,char **argv){int r,n,k,w,v,sum=0;MPI_Status st;MPI_Init(&argc,&argv);MPI_Comm_rank(MPI_COMM_WORLD,&r);MPI_Comm_size(MPI_COMM_WORLD,&n);if(r==0){for(k=0;k<9;k++){w=1+k%(n-1);v=k*37+5;MPI_Send(&v,1,MPI_INT,w,1,MPI_COMM_WORLD);}for(w=1;w<n;w++)MPI_Send(NULL,0,MPI_INT,w,2,MPI_COMM_WORLD);for(k=0;k<9;k++){w=1+k%(n-1);MPI_Recv(&v,1,MPI_INT,w,MPI_ANY_TAG,MPI_COMM_WORLD,&st);printf("%d:%d ",w,v);sum+=v;}printf("= %d\n",sum);}else{while(1){MPI_Recv(&v,1,MPI_INT,0,MPI_ANY_TAG,MPI_COMM_WORLD,&st);if(st.MPI_TAG==2)break;v=work(v);MPI_Send(&v,1,MPI_INT,0,3,MPI_COMM_WORLD);}}MPI_Finalize();return 0;}"#;
 
 const ODDEVEN: &str =
-    "int main(void){int r,n,i,mine,other,peer;MPI_Init(NULL,NULL);MPI_Comm_rank(MPI_COMM_WORLD,&r);MPI_Comm_size(MPI_COMM_WORLD,&n);mine=(r*7+3)%17;for(i=0;i<n;i++){if((r+i)%2==0)peer=r+1;else peer=r-1;if(peer<0||peer>=n)peer=MPI_PROC_NULL;other=mine;MPI_Send(&mine,1,MPI_INT,peer,i,MPI_COMM_WORLD);MPI_Recv(&other,1,MPI_INT,peer,i,MPI_COMM_WORLD,MPI_STATUS_IGNORE);if(peer>r&&other<mine)mine=other;if(peer>=0&&peer<r&&other>mine)mine=other;}printf(\"%d\\n\",mine);MPI_Finalize();return 0;}";
+    r#"int main(void){int r,n,i,mine,other,peer;MPI_Init(NULL,NULL);MPI_Comm_rank(MPI_COMM_WORLD,&r);MPI_Comm_size(MPI_COMM_WORLD,&n);mine=(r*7+3)%17;for(i=0;i<n;i++){if((r+i)%2==0)peer=r+1;else peer=r-1;if(peer<0||peer>=n)peer=MPI_PROC_NULL;other=mine;MPI_Send(&mine,1,MPI_INT,peer,i,MPI_COMM_WORLD);MPI_Recv(&other,1,MPI_INT,peer,i,MPI_COMM_WORLD,MPI_STATUS_IGNORE);if(peer>r&&other<mine)mine=other;if(peer>=0&&peer<r&&other>mine)mine=other;}printf("%d\n",mine);MPI_Finalize();return 0;}"#;
 
 const TREE_SUM: &str =
-    "int main(void){int r,n,d,v,o;MPI_Init(NULL,NULL);MPI_Comm_rank(MPI_COMM_WORLD,&r);MPI_Comm_size(MPI_COMM_WORLD,&n);v=r*r+1;for(d=1;d<n;d*=2){if(r%(2*d)==0){if(r+d<n){MPI_Recv(&o,1,MPI_INT,r+d,d,MPI_COMM_WORLD,MPI_STATUS_IGNORE);v+=o;}}else{MPI_Send(&v,1,MPI_INT,r-d,d,MPI_COMM_WORLD);break;}}if(r==0)printf(\"%d\\n\",v);MPI_Finalize();return v%100;}";
+    r#"int main(void){int r,n,d,v,o;MPI_Init(NULL,NULL);MPI_Comm_rank(MPI_COMM_WORLD,&r);MPI_Comm_size(MPI_COMM_WORLD,&n);v=r*r+1;for(d=1;d<n;d*=2){if(r%(2*d)==0){if(r+d<n){MPI_Recv(&o,1,MPI_INT,r+d,d,MPI_COMM_WORLD,MPI_STATUS_IGNORE);v+=o;}}else{MPI_Send(&v,1,MPI_INT,r-d,d,MPI_COMM_WORLD);break;}}if(r==0)printf("%d\n",v);MPI_Finalize();return v%100;}"#;
 
 const STENCIL: &str =
-    "int main(int argc,char **argv){int r,n,i,t;MPI_Status st;MPI_Init(&argc,&argv);MPI_Comm_rank(MPI_COMM_WORLD,&r);MPI_Comm_size(MPI_COMM_WORLD,&n);int left=r>0?r-1:MPI_PROC_NULL;int right=r<n-1?r+1:MPI_PROC_NULL;long *u=(long*)malloc(4*sizeof(long));long a,b;for(i=0;i<4;i++)u[i]=0;for(i=1;i<=2;i++)u[i]=10*r+i;for(t=0;t<3;t++){MPI_Send(&u[1],1,MPI_LONG,left,1,MPI_COMM_WORLD);MPI_Send(&u[2],1,MPI_LONG,right,2,MPI_COMM_WORLD);MPI_Recv(&u[0],1,MPI_LONG,left,2,MPI_COMM_WORLD,&st);MPI_Recv(&u[3],1,MPI_LONG,right,1,MPI_COMM_WORLD,&st);a=u[0]+u[2];b=u[1]+u[3];u[1]=a;u[2]=b;}printf(\"%ld %ld\\n\",u[1],u[2]);free(u);MPI_Finalize();return 0;}";
+    r#"int main(int argc,char **argv){int r,n,i,t;MPI_Status st;MPI_Init(&argc,&argv);MPI_Comm_rank(MPI_COMM_WORLD,&r);MPI_Comm_size(MPI_COMM_WORLD,&n);int left=r>0?r-1:MPI_PROC_NULL;int right=r<n-1?r+1:MPI_PROC_NULL;long *u=(long*)malloc(4*sizeof(long));long a,b;for(i=0;i<4;i++)u[i]=0;for(i=1;i<=2;i++)u[i]=10*r+i;for(t=0;t<3;t++){MPI_Send(&u[1],1,MPI_LONG,left,1,MPI_COMM_WORLD);MPI_Send(&u[2],1,MPI_LONG,right,2,MPI_COMM_WORLD);MPI_Recv(&u[0],1,MPI_LONG,left,2,MPI_COMM_WORLD,&st);MPI_Recv(&u[3],1,MPI_LONG,right,1,MPI_COMM_WORLD,&st);a=u[0]+u[2];b=u[1]+u[3];u[1]=a;u[2]=b;}printf("%ld %ld\n",u[1],u[2]);free(u);MPI_Finalize();return 0;}"#;
 
 const TREE_CAST: &str =
-    "int main(void){int r,n,d,i;char s[6];MPI_Init(NULL,NULL);MPI_Comm_rank(MPI_COMM_WORLD,&r);MPI_Comm_size(MPI_COMM_WORLD,&n);for(i=0;i<6;i++)s[i]='-';if(r==0){s[0]='h';s[1]='e';s[2]='l';s[3]='l';s[4]='o';s[5]='\\0';}d=1;while(d<n)d*=2;for(d=d/2;d>0;d/=2){if(r%(2*d)==0){if(r+d<n)MPI_Send(s,6,MPI_CHAR,r+d,0,MPI_COMM_WORLD);}else if(r%(2*d)==d)MPI_Recv(s,6,MPI_CHAR,r-d,0,MPI_COMM_WORLD,MPI_STATUS_IGNORE);}for(i=0;s[i];i++)printf(\"%c\",s[i]);printf(\" %d\\n\",r);MPI_Finalize();return 0;}";
+    r#"int main(void){int r,n,d,i;char s[6];MPI_Init(NULL,NULL);MPI_Comm_rank(MPI_COMM_WORLD,&r);MPI_Comm_size(MPI_COMM_WORLD,&n);for(i=0;i<6;i++)s[i]='-';if(r==0){s[0]='h';s[1]='e';s[2]='l';s[3]='l';s[4]='o';s[5]='\0';}d=1;while(d<n)d*=2;for(d=d/2;d>0;d/=2){if(r%(2*d)==0){if(r+d<n)MPI_Send(s,6,MPI_CHAR,r+d,0,MPI_COMM_WORLD);}else if(r%(2*d)==d)MPI_Recv(s,6,MPI_CHAR,r-d,0,MPI_COMM_WORLD,MPI_STATUS_IGNORE);}for(i=0;s[i];i++)printf("%c",s[i]);printf(" %d\n",r);MPI_Finalize();return 0;}"#;
 
 const MATRIX: &str =
-    "int main(void){int r,n,i,j,k;int a[6][3],x[3],row[3];int y;MPI_Status st;MPI_Init(NULL,NULL);MPI_Comm_rank(MPI_COMM_WORLD,&r);MPI_Comm_size(MPI_COMM_WORLD,&n);for(j=0;j<3;j++)x[j]=j+1;if(r==0){for(i=0;i<6;i++)for(j=0;j<3;j++)a[i][j]=i*j-i;for(i=0;i<6;i++)MPI_Send(a[i],3,MPI_INT,1+i%(n-1),i,MPI_COMM_WORLD);for(i=0;i<6;i++){MPI_Recv(&y,1,MPI_INT,1+i%(n-1),i,MPI_COMM_WORLD,MPI_STATUS_IGNORE);printf(\"%d \",y);}printf(\"\\n\");}else{for(i=r-1;i<6;i+=n-1){MPI_Recv(row,3,MPI_INT,0,MPI_ANY_TAG,MPI_COMM_WORLD,&st);y=0;for(k=0;k<3;k++)y+=row[k]*x[k];MPI_Send(&y,1,MPI_INT,0,st.MPI_TAG,MPI_COMM_WORLD);}}MPI_Finalize();return 0;}";
+    r#"int main(void){int r,n,i,j,k;int a[6][3],x[3],row[3];int y;MPI_Status st;MPI_Init(NULL,NULL);MPI_Comm_rank(MPI_COMM_WORLD,&r);MPI_Comm_size(MPI_COMM_WORLD,&n);for(j=0;j<3;j++)x[j]=j+1;if(r==0){for(i=0;i<6;i++)for(j=0;j<3;j++)a[i][j]=i*j-i;for(i=0;i<6;i++)MPI_Send(a[i],3,MPI_INT,1+i%(n-1),i,MPI_COMM_WORLD);for(i=0;i<6;i++){MPI_Recv(&y,1,MPI_INT,1+i%(n-1),i,MPI_COMM_WORLD,MPI_STATUS_IGNORE);printf("%d ",y);}printf("\n");}else{for(i=r-1;i<6;i+=n-1){MPI_Recv(row,3,MPI_INT,0,MPI_ANY_TAG,MPI_COMM_WORLD,&st);y=0;for(k=0;k<3;k++)y+=row[k]*x[k];MPI_Send(&y,1,MPI_INT,0,st.MPI_TAG,MPI_COMM_WORLD);}}MPI_Finalize();return 0;}"#;
 
 const PREFIX: &str =
-    "int main(void){int r,n,d;long v,o;MPI_Init(NULL,NULL);MPI_Comm_rank(MPI_COMM_WORLD,&r);MPI_Comm_size(MPI_COMM_WORLD,&n);v=r+1;for(d=1;d<n;d*=2){if(r+d<n)MPI_Send(&v,1,MPI_LONG,r+d,d,MPI_COMM_WORLD);if(r-d>=0){MPI_Recv(&o,1,MPI_LONG,r-d,d,MPI_COMM_WORLD,MPI_STATUS_IGNORE);v+=o;}}printf(\"%ld\\n\",v);MPI_Finalize();return 0;}";
+    r#"int main(void){int r,n,d;long v,o;MPI_Init(NULL,NULL);MPI_Comm_rank(MPI_COMM_WORLD,&r);MPI_Comm_size(MPI_COMM_WORLD,&n);v=r+1;for(d=1;d<n;d*=2){if(r+d<n)MPI_Send(&v,1,MPI_LONG,r+d,d,MPI_COMM_WORLD);if(r-d>=0){MPI_Recv(&o,1,MPI_LONG,r-d,d,MPI_COMM_WORLD,MPI_STATUS_IGNORE);v+=o;}}printf("%ld\n",v);MPI_Finalize();return 0;}"#;
 
 const TAGS_TURNED: &str =
-    "int main(void){int r,a,b,c;MPI_Status st;MPI_Init(NULL,NULL);MPI_Comm_rank(MPI_COMM_WORLD,&r);if(r==0){a=1;MPI_Send(&a,1,MPI_INT,1,5,MPI_COMM_WORLD);a=2;MPI_Send(&a,1,MPI_INT,1,6,MPI_COMM_WORLD);a=3;MPI_Send(&a,1,MPI_INT,1,5,MPI_COMM_WORLD);}else{MPI_Recv(&a,1,MPI_INT,0,6,MPI_COMM_WORLD,&st);MPI_Recv(&b,1,MPI_INT,0,MPI_ANY_TAG,MPI_COMM_WORLD,&st);MPI_Recv(&c,1,MPI_INT,0,5,MPI_COMM_WORLD,&st);printf(\"%d%d%d\\n\",a,b,c);}MPI_Finalize();return 0;}";
+    r#"int main(void){int r,a,b,c;MPI_Status st;MPI_Init(NULL,NULL);MPI_Comm_rank(MPI_COMM_WORLD,&r);if(r==0){a=1;MPI_Send(&a,1,MPI_INT,1,5,MPI_COMM_WORLD);a=2;MPI_Send(&a,1,MPI_INT,1,6,MPI_COMM_WORLD);a=3;MPI_Send(&a,1,MPI_INT,1,5,MPI_COMM_WORLD);}else{MPI_Recv(&a,1,MPI_INT,0,6,MPI_COMM_WORLD,&st);MPI_Recv(&b,1,MPI_INT,0,MPI_ANY_TAG,MPI_COMM_WORLD,&st);MPI_Recv(&c,1,MPI_INT,0,5,MPI_COMM_WORLD,&st);printf("%d%d%d\n",a,b,c);}MPI_Finalize();return 0;}"#;
 
 const COUNTS: &str =
-    "int main(void){int r,n,i,c,b[8];long l[2];MPI_Status st;MPI_Init(NULL,NULL);MPI_Comm_rank(MPI_COMM_WORLD,&r);MPI_Comm_size(MPI_COMM_WORLD,&n);for(i=0;i<8;i++)b[i]=10*r+i;if(r>0){MPI_Send(b+1,r,MPI_INT,0,20+r,MPI_COMM_WORLD);l[0]=r;MPI_Send(l,1,MPI_LONG,0,40,MPI_COMM_WORLD);}else for(i=1;i<n;i++){MPI_Recv(b,8,MPI_INT,i,MPI_ANY_TAG,MPI_COMM_WORLD,&st);MPI_Get_count(&st,MPI_INT,&c);printf(\"%d %d %d:\",st.MPI_SOURCE,st.MPI_TAG,c);for(int j=0;j<=c;j++)printf(\" %d\",b[j]);printf(\"\\n\");MPI_Recv(l,2,MPI_LONG,i,40,MPI_COMM_WORLD,&st);MPI_Get_count(&st,MPI_LONG,&c);printf(\"%d %ld\\n\",c,l[0]);}MPI_Finalize();return 0;}";
+    r#"int main(void){int r,n,i,c,b[8];long l[2];MPI_Status st;MPI_Init(NULL,NULL);MPI_Comm_rank(MPI_COMM_WORLD,&r);MPI_Comm_size(MPI_COMM_WORLD,&n);for(i=0;i<8;i++)b[i]=10*r+i;if(r>0){MPI_Send(b+1,r,MPI_INT,0,20+r,MPI_COMM_WORLD);l[0]=r;MPI_Send(l,1,MPI_LONG,0,40,MPI_COMM_WORLD);}else for(i=1;i<n;i++){MPI_Recv(b,8,MPI_INT,i,MPI_ANY_TAG,MPI_COMM_WORLD,&st);MPI_Get_count(&st,MPI_INT,&c);printf("%d %d %d:",st.MPI_SOURCE,st.MPI_TAG,c);for(int j=0;j<=c;j++)printf(" %d",b[j]);printf("\n");MPI_Recv(l,2,MPI_LONG,i,40,MPI_COMM_WORLD,&st);MPI_Get_count(&st,MPI_LONG,&c);printf("%d %ld\n",c,l[0]);}MPI_Finalize();return 0;}"#;
 
 const LETTERS: &str =
-    "int main(void){int r,n,c,i;char s[20];MPI_Status st;MPI_Init(NULL,NULL);MPI_Comm_rank(MPI_COMM_WORLD,&r);MPI_Comm_size(MPI_COMM_WORLD,&n);c=0;if(r>0){MPI_Recv(s,20,MPI_CHAR,r-1,0,MPI_COMM_WORLD,&st);MPI_Get_count(&st,MPI_CHAR,&c);}for(i=0;i<=r%3;i++){s[c]='a'+r;c++;}if(r<n-1)MPI_Send(s,c,MPI_CHAR,r+1,0,MPI_COMM_WORLD);else{for(i=0;i<c;i++)printf(\"%c\",s[i]);printf(\"\\n\");}MPI_Finalize();return 0;}";
+    r#"int main(void){int r,n,c,i;char s[20];MPI_Status st;MPI_Init(NULL,NULL);MPI_Comm_rank(MPI_COMM_WORLD,&r);MPI_Comm_size(MPI_COMM_WORLD,&n);c=0;if(r>0){MPI_Recv(s,20,MPI_CHAR,r-1,0,MPI_COMM_WORLD,&st);MPI_Get_count(&st,MPI_CHAR,&c);}for(i=0;i<=r%3;i++){s[c]='a'+r;c++;}if(r<n-1)MPI_Send(s,c,MPI_CHAR,r+1,0,MPI_COMM_WORLD);else{for(i=0;i<c;i++)printf("%c",s[i]);printf("\n");}MPI_Finalize();return 0;}"#;
 
 const EXCHANGE: &str =
-    "int main(void){int r,n,i,*out,*in;MPI_Init(NULL,NULL);MPI_Comm_rank(MPI_COMM_WORLD,&r);MPI_Comm_size(MPI_COMM_WORLD,&n);out=malloc(n*sizeof(int));in=malloc(n*sizeof(int));for(i=0;i<n;i++)out[i]=100*r+i;for(i=0;i<n;i++)MPI_Send(&out[i],1,MPI_INT,i,0,MPI_COMM_WORLD);for(i=n-1;i>=0;i--)MPI_Recv(&in[i],1,MPI_INT,i,0,MPI_COMM_WORLD,MPI_STATUS_IGNORE);for(i=0;i<n;i++)printf(\"%d \",in[i]);printf(\"\\n\");free(in);free(out);MPI_Finalize();return 0;}";
+    r#"int main(void){int r,n,i,*out,*in;MPI_Init(NULL,NULL);MPI_Comm_rank(MPI_COMM_WORLD,&r);MPI_Comm_size(MPI_COMM_WORLD,&n);out=malloc(n*sizeof(int));in=malloc(n*sizeof(int));for(i=0;i<n;i++)out[i]=100*r+i;for(i=0;i<n;i++)MPI_Send(&out[i],1,MPI_INT,i,0,MPI_COMM_WORLD);for(i=n-1;i>=0;i--)MPI_Recv(&in[i],1,MPI_INT,i,0,MPI_COMM_WORLD,MPI_STATUS_IGNORE);for(i=0;i<n;i++)printf("%d ",in[i]);printf("\n");free(in);free(out);MPI_Finalize();return 0;}"#;
 
 const SIEVE: &str =
-    "int main(void){int r,n,x,mine=0;MPI_Init(NULL,NULL);MPI_Comm_rank(MPI_COMM_WORLD,&r);MPI_Comm_size(MPI_COMM_WORLD,&n);if(r==0){for(x=2;x<30;x++)MPI_Send(&x,1,MPI_INT,1,0,MPI_COMM_WORLD);x=0;MPI_Send(&x,1,MPI_INT,1,0,MPI_COMM_WORLD);}else{while(1){MPI_Recv(&x,1,MPI_INT,r-1,0,MPI_COMM_WORLD,MPI_STATUS_IGNORE);if(x!=0&&mine==0){mine=x;printf(\"%d:\",mine);continue;}if(x!=0&&x%mine==0)continue;if(r<n-1)MPI_Send(&x,1,MPI_INT,r+1,0,MPI_COMM_WORLD);else if(x!=0)printf(\" %d\",x);if(x==0)break;}printf(\"\\n\");}MPI_Finalize();return 0;}";
+    r#"int main(void){int r,n,x,mine=0;MPI_Init(NULL,NULL);MPI_Comm_rank(MPI_COMM_WORLD,&r);MPI_Comm_size(MPI_COMM_WORLD,&n);if(r==0){for(x=2;x<30;x++)MPI_Send(&x,1,MPI_INT,1,0,MPI_COMM_WORLD);x=0;MPI_Send(&x,1,MPI_INT,1,0,MPI_COMM_WORLD);}else{while(1){MPI_Recv(&x,1,MPI_INT,r-1,0,MPI_COMM_WORLD,MPI_STATUS_IGNORE);if(x!=0&&mine==0){mine=x;printf("%d:",mine);continue;}if(x!=0&&x%mine==0)continue;if(r<n-1)MPI_Send(&x,1,MPI_INT,r+1,0,MPI_COMM_WORLD);else if(x!=0)printf(" %d",x);if(x==0)break;}printf("\n");}MPI_Finalize();return 0;}"#;
 
 const SUM_ANY: &str =
-    "int main(void){int r,n,i,v,s=0,seen[16];MPI_Status st;MPI_Init(NULL,NULL);MPI_Comm_rank(MPI_COMM_WORLD,&r);MPI_Comm_size(MPI_COMM_WORLD,&n);if(r==0){for(i=0;i<n;i++)seen[i]=0;for(i=1;i<n;i++){MPI_Recv(&v,1,MPI_INT,MPI_ANY_SOURCE,MPI_ANY_TAG,MPI_COMM_WORLD,&st);s+=v;seen[st.MPI_SOURCE]+=st.MPI_TAG;}for(i=0;i<n;i++)printf(\"%d \",seen[i]);printf(\"%d\\n\",s);}else{v=r*r;MPI_Send(&v,1,MPI_INT,0,r+1,MPI_COMM_WORLD);}MPI_Finalize();return 0;}";
+    r#"int main(void){int r,n,i,v,s=0,seen[16];MPI_Status st;MPI_Init(NULL,NULL);MPI_Comm_rank(MPI_COMM_WORLD,&r);MPI_Comm_size(MPI_COMM_WORLD,&n);if(r==0){for(i=0;i<n;i++)seen[i]=0;for(i=1;i<n;i++){MPI_Recv(&v,1,MPI_INT,MPI_ANY_SOURCE,MPI_ANY_TAG,MPI_COMM_WORLD,&st);s+=v;seen[st.MPI_SOURCE]+=st.MPI_TAG;}for(i=0;i<n;i++)printf("%d ",seen[i]);printf("%d\n",s);}else{v=r*r;MPI_Send(&v,1,MPI_INT,0,r+1,MPI_COMM_WORLD);}MPI_Finalize();return 0;}"#;
 
 const SHEAR: &str =
-    "struct cell{int alive;int next;};int main(void){int r,n,g,i,l,h;struct cell c[8];int up[2],down[2];MPI_Init(NULL,NULL);MPI_Comm_rank(MPI_COMM_WORLD,&r);MPI_Comm_size(MPI_COMM_WORLD,&n);for(i=0;i<8;i++){c[i].alive=(r+i*i)%3==0;c[i].next=0;}for(g=0;g<4;g++){l=(r+n-1)%n;h=(r+1)%n;MPI_Send(&c[0].alive,1,MPI_INT,l,g,MPI_COMM_WORLD);MPI_Send(&c[7].alive,1,MPI_INT,h,g,MPI_COMM_WORLD);MPI_Recv(&down[0],1,MPI_INT,l,g,MPI_COMM_WORLD,MPI_STATUS_IGNORE);MPI_Recv(&up[1],1,MPI_INT,h,g,MPI_COMM_WORLD,MPI_STATUS_IGNORE);for(i=0;i<8;i++){int a=i>0?c[i-1].alive:down[0];int b=i<7?c[i+1].alive:up[1];c[i].next=a!=b;}for(i=0;i<8;i++)c[i].alive=c[i].next;}for(i=0;i<8;i++)printf(\"%d\",c[i].alive);printf(\"\\n\");MPI_Finalize();return 0;}";
+    r#"struct cell{int alive;int next;};int main(void){int r,n,g,i,l,h;struct cell c[8];int up[2],down[2];MPI_Init(NULL,NULL);MPI_Comm_rank(MPI_COMM_WORLD,&r);MPI_Comm_size(MPI_COMM_WORLD,&n);for(i=0;i<8;i++){c[i].alive=(r+i*i)%3==0;c[i].next=0;}for(g=0;g<4;g++){l=(r+n-1)%n;h=(r+1)%n;MPI_Send(&c[0].alive,1,MPI_INT,l,g,MPI_COMM_WORLD);MPI_Send(&c[7].alive,1,MPI_INT,h,g,MPI_COMM_WORLD);MPI_Recv(&down[0],1,MPI_INT,l,g,MPI_COMM_WORLD,MPI_STATUS_IGNORE);MPI_Recv(&up[1],1,MPI_INT,h,g,MPI_COMM_WORLD,MPI_STATUS_IGNORE);for(i=0;i<8;i++){int a=i>0?c[i-1].alive:down[0];int b=i<7?c[i+1].alive:up[1];c[i].next=a!=b;}for(i=0;i<8;i++)c[i].alive=c[i].next;}for(i=0;i<8;i++)printf("%d",c[i].alive);printf("\n");MPI_Finalize();return 0;}"#;
 
 const GCD: &str =
-    "int main(void){int r,a=1071,b=462,k=0,x[2];MPI_Init(NULL,NULL);MPI_Comm_rank(MPI_COMM_WORLD,&r);if(r==0){x[0]=a;x[1]=b;MPI_Send(x,2,MPI_INT,1,0,MPI_COMM_WORLD);}while(1){MPI_Recv(x,2,MPI_INT,1-r,0,MPI_COMM_WORLD,MPI_STATUS_IGNORE);k++;if(x[1]==0){if(x[0]>0){printf(\"%d\\n\",x[0]);x[0]=-1;MPI_Send(x,2,MPI_INT,1-r,0,MPI_COMM_WORLD);}break;}int t=x[0]%x[1];x[0]=x[1];x[1]=t;MPI_Send(x,2,MPI_INT,1-r,0,MPI_COMM_WORLD);}MPI_Finalize();return k;}";
+    r#"int main(void){int r,a=1071,b=462,k=0,x[2];MPI_Init(NULL,NULL);MPI_Comm_rank(MPI_COMM_WORLD,&r);if(r==0){x[0]=a;x[1]=b;MPI_Send(x,2,MPI_INT,1,0,MPI_COMM_WORLD);}while(1){MPI_Recv(x,2,MPI_INT,1-r,0,MPI_COMM_WORLD,MPI_STATUS_IGNORE);k++;if(x[1]==0){if(x[0]>0){printf("%d\n",x[0]);x[0]=-1;MPI_Send(x,2,MPI_INT,1-r,0,MPI_COMM_WORLD);}break;}int t=x[0]%x[1];x[0]=x[1];x[1]=t;MPI_Send(x,2,MPI_INT,1-r,0,MPI_COMM_WORLD);}MPI_Finalize();return k;}"#;
 
 /// A program with a schedule after it.
 fn scheduled(alloc: Global, program: &str, schedule: &str) -> Result<Vec<u8>, Fail> {
@@ -67,172 +68,137 @@ fn scheduled(alloc: Global, program: &str, schedule: &str) -> Result<Vec<u8>, Fa
 // The expected output is that of an MPI library, but for one rank that sends to itself.
 #[test]
 fn runs_programs_with_messages(rt: HostRuntime) -> Result<(), Fail> {
-    let rows = [
+    let programs = [
         (
-            "plain 1",
             RING,
-            "rank 0 exit 0 bytes 11\n100 from 0\nfinished\n",
+            r#"
+plain 1@rank 0 exit 0 bytes 11⏎100 from 0⏎finished⏎
+plain 2@rank 0 exit 0 bytes 11⏎101 from 1⏎rank 1 exit 0 bytes 0⏎finished⏎
+plain 4@rank 0 exit 0 bytes 11⏎106 from 3⏎rank 1 exit 0 bytes 0⏎rank 2 exit 0 bytes 0⏎rank 3 exit 0 bytes 0⏎finished⏎
+plain 16@rank 0 exit 0 bytes 12⏎220 from 15⏎rank 1 exit 0 bytes 0⏎rank 2 exit 0 bytes 0⏎rank 3 exit 0 bytes 0⏎rank 4 exit 0 bytes 0⏎rank 5 exit 0 bytes 0⏎rank 6 exit 0 bytes 0⏎rank 7 exit 0 bytes 0⏎rank 8 exit 0 bytes 0⏎rank 9 exit 0 bytes 0⏎rank 10 exit 0 bytes 0⏎rank 11 exit 0 bytes 0⏎rank 12 exit 0 bytes 0⏎rank 13 exit 0 bytes 0⏎rank 14 exit 0 bytes 0⏎rank 15 exit 0 bytes 0⏎finished⏎
+"#,
         ),
         (
-            "plain 2",
-            RING,
-            "rank 0 exit 0 bytes 11\n101 from 1\nrank 1 exit 0 bytes 0\nfinished\n",
-        ),
-        (
-            "plain 4",
-            RING,
-            "rank 0 exit 0 bytes 11\n106 from 3\nrank 1 exit 0 bytes 0\nrank 2 exit 0 bytes 0\nrank 3 exit 0 bytes 0\nfinished\n",
-        ),
-        (
-            "plain 16",
-            RING,
-            "rank 0 exit 0 bytes 12\n220 from 15\nrank 1 exit 0 bytes 0\nrank 2 exit 0 bytes 0\nrank 3 exit 0 bytes 0\nrank 4 exit 0 bytes 0\nrank 5 exit 0 bytes 0\nrank 6 exit 0 bytes 0\nrank 7 exit 0 bytes 0\nrank 8 exit 0 bytes 0\nrank 9 exit 0 bytes 0\nrank 10 exit 0 bytes 0\nrank 11 exit 0 bytes 0\nrank 12 exit 0 bytes 0\nrank 13 exit 0 bytes 0\nrank 14 exit 0 bytes 0\nrank 15 exit 0 bytes 0\nfinished\n",
-        ),
-        (
-            "plain 2",
             PIPELINE,
-            "rank 0 exit 0 bytes 0\nrank 1 exit 0 bytes 16\n1 10 37 82 145 \nfinished\n",
+            r#"
+plain 2@rank 0 exit 0 bytes 0⏎rank 1 exit 0 bytes 16⏎1 10 37 82 145 ⏎finished⏎
+plain 4@rank 0 exit 0 bytes 0⏎rank 1 exit 0 bytes 0⏎rank 2 exit 0 bytes 0⏎rank 3 exit 0 bytes 20⏎18 99 342 747 1314 ⏎finished⏎
+"#,
         ),
         (
-            "plain 4",
-            PIPELINE,
-            "rank 0 exit 0 bytes 0\nrank 1 exit 0 bytes 0\nrank 2 exit 0 bytes 0\nrank 3 exit 0 bytes 20\n18 99 342 747 1314 \nfinished\n",
-        ),
-        (
-            "plain 2",
             WORKERS,
-            "rank 0 exit 0 bytes 45\n1:5 1:6 1:16 1:8 1:9 1:10 1:11 1:12 1:4 = 81\nrank 1 exit 0 bytes 0\nfinished\n",
+            r#"
+plain 2@rank 0 exit 0 bytes 45⏎1:5 1:6 1:16 1:8 1:9 1:10 1:11 1:12 1:4 = 81⏎rank 1 exit 0 bytes 0⏎finished⏎
+plain 4@rank 0 exit 0 bytes 45⏎1:5 2:6 3:16 1:8 2:9 3:10 1:11 2:12 3:4 = 81⏎rank 1 exit 0 bytes 0⏎rank 2 exit 0 bytes 0⏎rank 3 exit 0 bytes 0⏎finished⏎
+"#,
         ),
         (
-            "plain 4",
-            WORKERS,
-            "rank 0 exit 0 bytes 45\n1:5 2:6 3:16 1:8 2:9 3:10 1:11 2:12 3:4 = 81\nrank 1 exit 0 bytes 0\nrank 2 exit 0 bytes 0\nrank 3 exit 0 bytes 0\nfinished\n",
-        ),
-        ("plain 1", ODDEVEN, "rank 0 exit 0 bytes 2\n3\nfinished\n"),
-        (
-            "plain 4",
             ODDEVEN,
-            "rank 0 exit 0 bytes 2\n0\nrank 1 exit 0 bytes 2\n3\nrank 2 exit 0 bytes 2\n7\nrank 3 exit 0 bytes 3\n10\nfinished\n",
+            r#"
+plain 1@rank 0 exit 0 bytes 2⏎3⏎finished⏎
+plain 4@rank 0 exit 0 bytes 2⏎0⏎rank 1 exit 0 bytes 2⏎3⏎rank 2 exit 0 bytes 2⏎7⏎rank 3 exit 0 bytes 3⏎10⏎finished⏎
+plain 16@rank 0 exit 0 bytes 2⏎0⏎rank 1 exit 0 bytes 2⏎1⏎rank 2 exit 0 bytes 2⏎2⏎rank 3 exit 0 bytes 2⏎3⏎rank 4 exit 0 bytes 2⏎4⏎rank 5 exit 0 bytes 2⏎5⏎rank 6 exit 0 bytes 2⏎6⏎rank 7 exit 0 bytes 2⏎7⏎rank 8 exit 0 bytes 2⏎8⏎rank 9 exit 0 bytes 2⏎9⏎rank 10 exit 0 bytes 3⏎10⏎rank 11 exit 0 bytes 3⏎11⏎rank 12 exit 0 bytes 3⏎12⏎rank 13 exit 0 bytes 3⏎14⏎rank 14 exit 0 bytes 3⏎15⏎rank 15 exit 0 bytes 3⏎16⏎finished⏎
+"#,
         ),
         (
-            "plain 16",
-            ODDEVEN,
-            "rank 0 exit 0 bytes 2\n0\nrank 1 exit 0 bytes 2\n1\nrank 2 exit 0 bytes 2\n2\nrank 3 exit 0 bytes 2\n3\nrank 4 exit 0 bytes 2\n4\nrank 5 exit 0 bytes 2\n5\nrank 6 exit 0 bytes 2\n6\nrank 7 exit 0 bytes 2\n7\nrank 8 exit 0 bytes 2\n8\nrank 9 exit 0 bytes 2\n9\nrank 10 exit 0 bytes 3\n10\nrank 11 exit 0 bytes 3\n11\nrank 12 exit 0 bytes 3\n12\nrank 13 exit 0 bytes 3\n14\nrank 14 exit 0 bytes 3\n15\nrank 15 exit 0 bytes 3\n16\nfinished\n",
-        ),
-        ("plain 1", TREE_SUM, "rank 0 exit 1 bytes 2\n1\nfinished\n"),
-        (
-            "plain 4",
             TREE_SUM,
-            "rank 0 exit 18 bytes 3\n18\nrank 1 exit 2 bytes 0\nrank 2 exit 15 bytes 0\nrank 3 exit 10 bytes 0\nfinished\n",
+            r#"
+plain 1@rank 0 exit 1 bytes 2⏎1⏎finished⏎
+plain 4@rank 0 exit 18 bytes 3⏎18⏎rank 1 exit 2 bytes 0⏎rank 2 exit 15 bytes 0⏎rank 3 exit 10 bytes 0⏎finished⏎
+plain 16@rank 0 exit 56 bytes 5⏎1256⏎rank 1 exit 2 bytes 0⏎rank 2 exit 15 bytes 0⏎rank 3 exit 10 bytes 0⏎rank 4 exit 30 bytes 0⏎rank 5 exit 26 bytes 0⏎rank 6 exit 87 bytes 0⏎rank 7 exit 50 bytes 0⏎rank 8 exit 8 bytes 0⏎rank 9 exit 82 bytes 0⏎rank 10 exit 23 bytes 0⏎rank 11 exit 22 bytes 0⏎rank 12 exit 38 bytes 0⏎rank 13 exit 70 bytes 0⏎rank 14 exit 23 bytes 0⏎rank 15 exit 26 bytes 0⏎finished⏎
+"#,
         ),
         (
-            "plain 16",
-            TREE_SUM,
-            "rank 0 exit 56 bytes 5\n1256\nrank 1 exit 2 bytes 0\nrank 2 exit 15 bytes 0\nrank 3 exit 10 bytes 0\nrank 4 exit 30 bytes 0\nrank 5 exit 26 bytes 0\nrank 6 exit 87 bytes 0\nrank 7 exit 50 bytes 0\nrank 8 exit 8 bytes 0\nrank 9 exit 82 bytes 0\nrank 10 exit 23 bytes 0\nrank 11 exit 22 bytes 0\nrank 12 exit 38 bytes 0\nrank 13 exit 70 bytes 0\nrank 14 exit 23 bytes 0\nrank 15 exit 26 bytes 0\nfinished\n",
-        ),
-        ("plain 1", STENCIL, "rank 0 exit 0 bytes 4\n2 1\nfinished\n"),
-        (
-            "plain 2",
             STENCIL,
-            "rank 0 exit 0 bytes 6\n16 35\nrank 1 exit 0 bytes 6\n30 23\nfinished\n",
+            r#"
+plain 1@rank 0 exit 0 bytes 4⏎2 1⏎finished⏎
+plain 2@rank 0 exit 0 bytes 6⏎16 35⏎rank 1 exit 0 bytes 6⏎30 23⏎finished⏎
+plain 4@rank 0 exit 0 bytes 6⏎16 56⏎rank 1 exit 0 bytes 7⏎64 128⏎rank 2 exit 0 bytes 8⏎136 167⏎rank 3 exit 0 bytes 7⏎142 83⏎finished⏎
+plain 16@rank 0 exit 0 bytes 6⏎16 56⏎rank 1 exit 0 bytes 7⏎64 128⏎rank 2 exit 0 bytes 8⏎136 208⏎rank 3 exit 0 bytes 8⏎216 288⏎rank 4 exit 0 bytes 8⏎296 368⏎rank 5 exit 0 bytes 8⏎376 448⏎rank 6 exit 0 bytes 8⏎456 528⏎rank 7 exit 0 bytes 8⏎536 608⏎rank 8 exit 0 bytes 8⏎616 688⏎rank 9 exit 0 bytes 8⏎696 768⏎rank 10 exit 0 bytes 8⏎776 848⏎rank 11 exit 0 bytes 8⏎856 928⏎rank 12 exit 0 bytes 9⏎936 1008⏎rank 13 exit 0 bytes 10⏎1016 1088⏎rank 14 exit 0 bytes 10⏎1096 1007⏎rank 15 exit 0 bytes 8⏎862 443⏎finished⏎
+"#,
         ),
         (
-            "plain 4",
-            STENCIL,
-            "rank 0 exit 0 bytes 6\n16 56\nrank 1 exit 0 bytes 7\n64 128\nrank 2 exit 0 bytes 8\n136 167\nrank 3 exit 0 bytes 7\n142 83\nfinished\n",
-        ),
-        (
-            "plain 16",
-            STENCIL,
-            "rank 0 exit 0 bytes 6\n16 56\nrank 1 exit 0 bytes 7\n64 128\nrank 2 exit 0 bytes 8\n136 208\nrank 3 exit 0 bytes 8\n216 288\nrank 4 exit 0 bytes 8\n296 368\nrank 5 exit 0 bytes 8\n376 448\nrank 6 exit 0 bytes 8\n456 528\nrank 7 exit 0 bytes 8\n536 608\nrank 8 exit 0 bytes 8\n616 688\nrank 9 exit 0 bytes 8\n696 768\nrank 10 exit 0 bytes 8\n776 848\nrank 11 exit 0 bytes 8\n856 928\nrank 12 exit 0 bytes 9\n936 1008\nrank 13 exit 0 bytes 10\n1016 1088\nrank 14 exit 0 bytes 10\n1096 1007\nrank 15 exit 0 bytes 8\n862 443\nfinished\n",
-        ),
-        (
-            "plain 2",
             TREE_CAST,
-            "rank 0 exit 0 bytes 8\nhello 0\nrank 1 exit 0 bytes 8\nhello 1\nfinished\n",
+            r#"
+plain 2@rank 0 exit 0 bytes 8⏎hello 0⏎rank 1 exit 0 bytes 8⏎hello 1⏎finished⏎
+plain 4@rank 0 exit 0 bytes 8⏎hello 0⏎rank 1 exit 0 bytes 8⏎hello 1⏎rank 2 exit 0 bytes 8⏎hello 2⏎rank 3 exit 0 bytes 8⏎hello 3⏎finished⏎
+"#,
         ),
         (
-            "plain 4",
-            TREE_CAST,
-            "rank 0 exit 0 bytes 8\nhello 0\nrank 1 exit 0 bytes 8\nhello 1\nrank 2 exit 0 bytes 8\nhello 2\nrank 3 exit 0 bytes 8\nhello 3\nfinished\n",
-        ),
-        (
-            "plain 2",
             MATRIX,
-            "rank 0 exit 0 bytes 14\n0 2 4 6 8 10 \nrank 1 exit 0 bytes 0\nfinished\n",
+            r#"
+plain 2@rank 0 exit 0 bytes 14⏎0 2 4 6 8 10 ⏎rank 1 exit 0 bytes 0⏎finished⏎
+plain 4@rank 0 exit 0 bytes 14⏎0 2 4 6 8 10 ⏎rank 1 exit 0 bytes 0⏎rank 2 exit 0 bytes 0⏎rank 3 exit 0 bytes 0⏎finished⏎
+"#,
         ),
         (
-            "plain 4",
-            MATRIX,
-            "rank 0 exit 0 bytes 14\n0 2 4 6 8 10 \nrank 1 exit 0 bytes 0\nrank 2 exit 0 bytes 0\nrank 3 exit 0 bytes 0\nfinished\n",
-        ),
-        (
-            "plain 2",
             PREFIX,
-            "rank 0 exit 0 bytes 2\n1\nrank 1 exit 0 bytes 2\n3\nfinished\n",
+            r#"
+plain 2@rank 0 exit 0 bytes 2⏎1⏎rank 1 exit 0 bytes 2⏎3⏎finished⏎
+plain 4@rank 0 exit 0 bytes 2⏎1⏎rank 1 exit 0 bytes 2⏎3⏎rank 2 exit 0 bytes 2⏎6⏎rank 3 exit 0 bytes 3⏎10⏎finished⏎
+"#,
         ),
         (
-            "plain 4",
-            PREFIX,
-            "rank 0 exit 0 bytes 2\n1\nrank 1 exit 0 bytes 2\n3\nrank 2 exit 0 bytes 2\n6\nrank 3 exit 0 bytes 3\n10\nfinished\n",
-        ),
-        (
-            "plain 2",
             TAGS_TURNED,
-            "rank 0 exit 0 bytes 0\nrank 1 exit 0 bytes 4\n213\nfinished\n",
+            r#"
+plain 2@rank 0 exit 0 bytes 0⏎rank 1 exit 0 bytes 4⏎213⏎finished⏎
+"#,
         ),
         (
-            "plain 2",
             COUNTS,
-            "rank 0 exit 0 bytes 17\n1 21 1: 11 1\n1 1\nrank 1 exit 0 bytes 0\nfinished\n",
+            r#"
+plain 2@rank 0 exit 0 bytes 17⏎1 21 1: 11 1⏎1 1⏎rank 1 exit 0 bytes 0⏎finished⏎
+plain 4@rank 0 exit 0 bytes 60⏎1 21 1: 11 1⏎1 1⏎2 22 2: 21 22 2⏎1 2⏎3 23 3: 31 32 33 3⏎1 3⏎rank 1 exit 0 bytes 0⏎rank 2 exit 0 bytes 0⏎rank 3 exit 0 bytes 0⏎finished⏎
+"#,
         ),
         (
-            "plain 4",
-            COUNTS,
-            "rank 0 exit 0 bytes 60\n1 21 1: 11 1\n1 1\n2 22 2: 21 22 2\n1 2\n3 23 3: 31 32 33 3\n1 3\nrank 1 exit 0 bytes 0\nrank 2 exit 0 bytes 0\nrank 3 exit 0 bytes 0\nfinished\n",
-        ),
-        ("plain 1", LETTERS, "rank 0 exit 0 bytes 2\na\nfinished\n"),
-        (
-            "plain 4",
             LETTERS,
-            "rank 0 exit 0 bytes 0\nrank 1 exit 0 bytes 0\nrank 2 exit 0 bytes 0\nrank 3 exit 0 bytes 8\nabbcccd\nfinished\n",
+            r#"
+plain 1@rank 0 exit 0 bytes 2⏎a⏎finished⏎
+plain 4@rank 0 exit 0 bytes 0⏎rank 1 exit 0 bytes 0⏎rank 2 exit 0 bytes 0⏎rank 3 exit 0 bytes 8⏎abbcccd⏎finished⏎
+"#,
         ),
-        ("plain 1", EXCHANGE, "rank 0 exit 0 bytes 3\n0 \nfinished\n"),
         (
-            "plain 4",
             EXCHANGE,
-            "rank 0 exit 0 bytes 15\n0 100 200 300 \nrank 1 exit 0 bytes 15\n1 101 201 301 \nrank 2 exit 0 bytes 15\n2 102 202 302 \nrank 3 exit 0 bytes 15\n3 103 203 303 \nfinished\n",
+            r#"
+plain 1@rank 0 exit 0 bytes 3⏎0 ⏎finished⏎
+plain 4@rank 0 exit 0 bytes 15⏎0 100 200 300 ⏎rank 1 exit 0 bytes 15⏎1 101 201 301 ⏎rank 2 exit 0 bytes 15⏎2 102 202 302 ⏎rank 3 exit 0 bytes 15⏎3 103 203 303 ⏎finished⏎
+"#,
         ),
         (
-            "plain 4",
             SIEVE,
-            "rank 0 exit 0 bytes 0\nrank 1 exit 0 bytes 3\n2:\nrank 2 exit 0 bytes 3\n3:\nrank 3 exit 0 bytes 23\n5: 7 11 13 17 19 23 29\nfinished\n",
+            r#"
+plain 4@rank 0 exit 0 bytes 0⏎rank 1 exit 0 bytes 3⏎2:⏎rank 2 exit 0 bytes 3⏎3:⏎rank 3 exit 0 bytes 23⏎5: 7 11 13 17 19 23 29⏎finished⏎
+"#,
         ),
         (
-            "plain 2",
             SUM_ANY,
-            "rank 0 exit 0 bytes 6\n0 2 1\nrank 1 exit 0 bytes 0\nfinished\n",
+            r#"
+plain 2@rank 0 exit 0 bytes 6⏎0 2 1⏎rank 1 exit 0 bytes 0⏎finished⏎
+plain 4@rank 0 exit 0 bytes 11⏎0 2 3 4 14⏎rank 1 exit 0 bytes 0⏎rank 2 exit 0 bytes 0⏎rank 3 exit 0 bytes 0⏎finished⏎
+"#,
         ),
         (
-            "plain 4",
-            SUM_ANY,
-            "rank 0 exit 0 bytes 11\n0 2 3 4 14\nrank 1 exit 0 bytes 0\nrank 2 exit 0 bytes 0\nrank 3 exit 0 bytes 0\nfinished\n",
-        ),
-        (
-            "plain 4",
             SHEAR,
-            "rank 0 exit 0 bytes 9\n00001001\nrank 1 exit 0 bytes 9\n00100110\nrank 2 exit 0 bytes 9\n11011111\nrank 3 exit 0 bytes 9\n11110000\nfinished\n",
+            r#"
+plain 4@rank 0 exit 0 bytes 9⏎00001001⏎rank 1 exit 0 bytes 9⏎00100110⏎rank 2 exit 0 bytes 9⏎11011111⏎rank 3 exit 0 bytes 9⏎11110000⏎finished⏎
+"#,
         ),
         (
-            "plain 2",
             GCD,
-            "rank 0 exit 2 bytes 3\n21\nrank 1 exit 3 bytes 0\nfinished\n",
+            r#"
+plain 2@rank 0 exit 2 bytes 3⏎21⏎rank 1 exit 3 bytes 0⏎finished⏎
+"#,
         ),
     ];
-    for (line, program, text) in rows {
-        let (status, written) = answered(rt.alloc(), line, program.as_bytes())?;
-        assert_eq!(rt; status, Status::Done, "at {line} {program}");
-        assert_eq!(rt; written.as_slice(), text.as_bytes(), "at {line} {program}");
+    for (program, table) in programs {
+        for line in table.trim().lines() {
+            let (words, answer) = line.split_once('@').expect(&rt, "a marked line");
+            let mut text = String::new(rt.alloc());
+            push_line(&mut text, answer)?;
+            let (_, written) = answered(rt.alloc(), words, program.as_bytes())?;
+            assert_eq!(rt; written.as_slice(), text.as_bytes(), "at {words} {program}");
+        }
     }
     Ok(())
 }
@@ -380,189 +346,111 @@ fn in_main(alloc: Global, front: &str, body: &str) -> Result<Vec<u8>, Fail> {
     Ok(input)
 }
 
-/// The text of one rank that has printed nothing; code 0 is its exit.
-fn ended(alloc: Global, code: u32) -> Result<Vec<u8>, Fail> {
-    let mut text = Vec::from_slice(alloc, b"rank 0 ")?;
-    text.extend_from_slice(if code == 0 {
-        b"exit ".as_slice()
-    } else {
-        b"fault ".as_slice()
-    })?;
-    let digits = code.to_string(alloc)?;
-    text.extend_from_slice(digits.as_bytes())?;
-    text.extend_from_slice(b" bytes 0\nfinished\n")?;
-    Ok(text)
+/// A rank that has printed nothing ends with the fault; 0 stands for its exit.
+fn assert_ended(rt: &impl Abort, alloc: Global, code: &str, input: &[u8]) -> Result<(), Fail> {
+    let how = if code == "0" { "exit" } else { "fault" };
+    let text = format!(in alloc; "rank 0 {how} {code} bytes 0\nfinished\n")?;
+    let (_, written) = answered(alloc, "plain 1", input)?;
+    assert_eq!(rt; written.as_slice(), text.as_bytes());
+    Ok(())
 }
 
 // Each fault at its test, by hand.
 #[test]
 fn tests_calls_in_order(rt: HostRuntime) -> Result<(), Fail> {
-    let rows = [
-        ("MPI_Send(b,-1,MPI_INT,0,0,MPI_COMM_WORLD);", 116),
-        ("MPI_Send(b,0,MPI_INT,0,0,MPI_COMM_WORLD);", 0),
-        ("MPI_Send(b,4096,MPI_INT,0,0,MPI_COMM_WORLD);", 0),
-        ("MPI_Send(b,4097,MPI_INT,0,0,MPI_COMM_WORLD);", 116),
-        ("MPI_Send(b,1,MPI_INT,-3,0,MPI_COMM_WORLD);", 113),
-        ("MPI_Send(b,1,MPI_INT,-2,0,MPI_COMM_WORLD);", 0),
-        ("MPI_Send(b,1,MPI_INT,-1,0,MPI_COMM_WORLD);", 113),
-        ("MPI_Send(b,1,MPI_INT,0,0,MPI_COMM_WORLD);", 0),
-        ("MPI_Send(b,1,MPI_INT,1,0,MPI_COMM_WORLD);", 113),
-        ("MPI_Send(b,1,MPI_INT,0,-2,MPI_COMM_WORLD);", 114),
-        ("MPI_Send(b,1,MPI_INT,0,-1,MPI_COMM_WORLD);", 114),
-        ("MPI_Send(b,1,MPI_INT,0,0,MPI_COMM_WORLD);", 0),
-        ("MPI_Send(b,1,MPI_INT,0,32767,MPI_COMM_WORLD);", 0),
-        ("MPI_Send(b,1,MPI_INT,0,32768,MPI_COMM_WORLD);", 114),
-        ("MPI_Send(b,4097,MPI_INT,1,-1,MPI_COMM_WORLD);", 116),
-        ("MPI_Send(b,1,MPI_INT,1,-1,MPI_COMM_WORLD);", 113),
-        ("MPI_Send(NULL,1,MPI_INT,0,-1,MPI_COMM_WORLD);", 114),
-        ("MPI_Send(NULL,1,MPI_INT,0,0,MPI_COMM_WORLD);", 101),
-        (
-            "MPI_Send(b,4097,MPI_INT,MPI_PROC_NULL,0,MPI_COMM_WORLD);",
-            116,
-        ),
-        (
-            "MPI_Send(b,1,MPI_INT,MPI_PROC_NULL,32768,MPI_COMM_WORLD);",
-            114,
-        ),
-        (
-            "MPI_Send(NULL,5,MPI_INT,MPI_PROC_NULL,0,MPI_COMM_WORLD);",
-            0,
-        ),
-        ("MPI_Send(a,3,MPI_INT,0,0,MPI_COMM_WORLD);", 0),
-        ("MPI_Send(a,4,MPI_INT,0,0,MPI_COMM_WORLD);", 102),
-        ("MPI_Send(a+1,2,MPI_INT,0,0,MPI_COMM_WORLD);", 0),
-        ("MPI_Send(a+1,3,MPI_INT,0,0,MPI_COMM_WORLD);", 102),
-        ("MPI_Send(a+3,0,MPI_INT,0,0,MPI_COMM_WORLD);", 0),
-        ("MPI_Send(a+3,1,MPI_INT,0,0,MPI_COMM_WORLD);", 102),
-        ("MPI_Send(NULL,0,MPI_INT,0,0,MPI_COMM_WORLD);", 0),
-        ("MPI_Send(&c,1,MPI_INT,0,0,MPI_COMM_WORLD);", 0),
-        ("MPI_Send(&c,2,MPI_INT,0,0,MPI_COMM_WORLD);", 102),
-        ("MPI_Send(&b[4095],1,MPI_INT,0,0,MPI_COMM_WORLD);", 0),
-        (
-            "p=malloc(8);free(p);MPI_Send(p,1,MPI_INT,0,0,MPI_COMM_WORLD);",
-            103,
-        ),
-        (
-            "p=malloc(8);free(p);MPI_Send(p,0,MPI_INT,0,0,MPI_COMM_WORLD);",
-            0,
-        ),
-        ("p=malloc(8);MPI_Send(p,2,MPI_INT,0,0,MPI_COMM_WORLD);", 0),
-        ("p=malloc(8);MPI_Send(p,3,MPI_INT,0,0,MPI_COMM_WORLD);", 102),
-        (
-            "p=malloc(8);MPI_Send(p+2,1,MPI_INT,0,0,MPI_COMM_WORLD);",
-            102,
-        ),
-        ("MPI_Recv(b,-1,MPI_INT,0,0,MPI_COMM_WORLD,&st);", 116),
-        ("MPI_Recv(b,4097,MPI_INT,0,0,MPI_COMM_WORLD,&st);", 116),
-        ("MPI_Recv(b,1,MPI_INT,-3,0,MPI_COMM_WORLD,&st);", 113),
-        ("MPI_Recv(b,1,MPI_INT,-1,0,MPI_COMM_WORLD,&st);", 113),
-        ("MPI_Recv(b,1,MPI_INT,1,0,MPI_COMM_WORLD,&st);", 113),
-        ("MPI_Recv(b,1,MPI_INT,0,-2,MPI_COMM_WORLD,&st);", 114),
-        ("MPI_Recv(b,1,MPI_INT,0,32768,MPI_COMM_WORLD,&st);", 114),
-        ("MPI_Recv(b,4097,MPI_INT,1,-2,MPI_COMM_WORLD,&st);", 116),
-        ("MPI_Recv(b,1,MPI_INT,1,-2,MPI_COMM_WORLD,&st);", 113),
-        ("MPI_Recv(NULL,1,MPI_INT,0,-2,MPI_COMM_WORLD,NULL);", 114),
-        ("MPI_Recv(NULL,1,MPI_INT,0,0,MPI_COMM_WORLD,&st);", 101),
-        ("MPI_Recv(a,4,MPI_INT,0,0,MPI_COMM_WORLD,NULL);", 102),
-        ("MPI_Recv(a,3,MPI_INT,0,0,MPI_COMM_WORLD,NULL);", 101),
-        ("MPI_Recv(NULL,0,MPI_INT,0,0,MPI_COMM_WORLD,&st+1);", 102),
-        (
-            "MPI_Status *q=malloc(16);free(q);MPI_Recv(a,1,MPI_INT,0,0,MPI_COMM_WORLD,q);",
-            103,
-        ),
-        (
-            "MPI_Recv(NULL,3,MPI_INT,MPI_PROC_NULL,0,MPI_COMM_WORLD,NULL);",
-            101,
-        ),
-        (
-            "MPI_Recv(NULL,3,MPI_INT,MPI_PROC_NULL,0,MPI_COMM_WORLD,MPI_STATUS_IGNORE);",
-            0,
-        ),
-        (
-            "MPI_Recv(b,4097,MPI_INT,MPI_PROC_NULL,0,MPI_COMM_WORLD,&st);",
-            116,
-        ),
-        (
-            "MPI_Recv(b,1,MPI_INT,MPI_PROC_NULL,-2,MPI_COMM_WORLD,&st);",
-            114,
-        ),
-        (
-            "MPI_Send(b,3,MPI_INT,0,5,MPI_COMM_WORLD);MPI_Recv(a,3,MPI_INT,0,5,MPI_COMM_WORLD,&st);",
-            0,
-        ),
-        (
-            "MPI_Send(b,3,MPI_INT,0,5,MPI_COMM_WORLD);MPI_Recv(a,2,MPI_INT,0,5,MPI_COMM_WORLD,&st);",
-            111,
-        ),
-        (
-            "MPI_Send(b,3,MPI_INT,0,5,MPI_COMM_WORLD);MPI_Recv(&l,1,MPI_LONG,0,5,MPI_COMM_WORLD,&st);",
-            112,
-        ),
-        (
-            "MPI_Send(b,3,MPI_INT,0,5,MPI_COMM_WORLD);MPI_Recv(a,3,MPI_INT,0,MPI_ANY_TAG,MPI_COMM_WORLD,&st);",
-            0,
-        ),
-        (
-            "MPI_Send(b,3,MPI_INT,0,5,MPI_COMM_WORLD);MPI_Recv(b,4096,MPI_INT,0,5,MPI_COMM_WORLD,&st);",
-            0,
-        ),
-        (
-            "MPI_Send(b,3,MPI_INT,0,5,MPI_COMM_WORLD);MPI_Recv(s,3,MPI_CHAR,0,5,MPI_COMM_WORLD,&st);",
-            112,
-        ),
-        (
-            "MPI_Send(b,3,MPI_INT,0,5,MPI_COMM_WORLD);MPI_Recv(NULL,0,MPI_INT,0,5,MPI_COMM_WORLD,&st);",
-            111,
-        ),
-        ("MPI_Get_count(&st,MPI_INT,&c);", 0),
-        ("MPI_Get_count(NULL,MPI_INT,&c);", 101),
-        ("MPI_Get_count(&st,MPI_INT,NULL);", 101),
-        ("MPI_Get_count(&st,MPI_INT,a+3);", 102),
-        ("MPI_Get_count(&st+1,MPI_INT,&c);", 102),
-        (
-            "MPI_Send(b,3,MPI_INT,0,5,MPI_COMM_WORLD);MPI_Recv(a,3,MPI_INT,0,5,MPI_COMM_WORLD,&st);MPI_Get_count(&st,MPI_LONG,&c);",
-            112,
-        ),
-        (
-            "MPI_Send(b,3,MPI_INT,0,5,MPI_COMM_WORLD);MPI_Recv(a,3,MPI_INT,0,5,MPI_COMM_WORLD,&st);MPI_Get_count(&st,MPI_LONG,NULL);",
-            101,
-        ),
-        (
-            "MPI_Send(b,3,MPI_INT,0,5,MPI_COMM_WORLD);MPI_Recv(a,3,MPI_INT,0,5,MPI_COMM_WORLD,&st);MPI_Get_count(&st,MPI_INT,&c);",
-            0,
-        ),
-        ("MPI_Comm_rank(MPI_COMM_WORLD,NULL);", 101),
-        ("MPI_Comm_rank(MPI_COMM_WORLD,a+3);", 102),
-        ("p=malloc(4);free(p);MPI_Comm_rank(MPI_COMM_WORLD,p);", 103),
-        ("MPI_Comm_rank(MPI_COMM_WORLD,a+2);", 0),
-        ("MPI_Comm_size(MPI_COMM_WORLD,NULL);", 101),
-        ("MPI_Comm_size(MPI_COMM_WORLD,a+3);", 102),
-        ("p=malloc(4);free(p);MPI_Comm_size(MPI_COMM_WORLD,p);", 103),
-        ("MPI_Comm_size(MPI_COMM_WORLD,a+2);", 0),
-        ("MPI_Init(NULL,NULL);", 117),
-        ("MPI_Finalize();", 0),
-        ("MPI_Finalize();MPI_Finalize();", 117),
-        ("MPI_Finalize();MPI_Init(NULL,NULL);", 117),
-        (
-            "MPI_Finalize();MPI_Send(b,-1,MPI_INT,9,-9,MPI_COMM_WORLD);",
-            117,
-        ),
-        (
-            "MPI_Finalize();MPI_Recv(b,-1,MPI_INT,9,-9,MPI_COMM_WORLD,NULL);",
-            117,
-        ),
-        ("MPI_Finalize();MPI_Comm_rank(MPI_COMM_WORLD,NULL);", 117),
-        ("MPI_Finalize();MPI_Comm_size(MPI_COMM_WORLD,NULL);", 117),
-        ("MPI_Finalize();MPI_Get_count(NULL,MPI_INT,NULL);", 117),
-    ];
-    for (body, code) in rows {
+    let table = r#"
+116@MPI_Send(b,-1,MPI_INT,0,0,MPI_COMM_WORLD);
+0@MPI_Send(b,0,MPI_INT,0,0,MPI_COMM_WORLD);
+0@MPI_Send(b,4096,MPI_INT,0,0,MPI_COMM_WORLD);
+116@MPI_Send(b,4097,MPI_INT,0,0,MPI_COMM_WORLD);
+113@MPI_Send(b,1,MPI_INT,-3,0,MPI_COMM_WORLD);
+0@MPI_Send(b,1,MPI_INT,-2,0,MPI_COMM_WORLD);
+113@MPI_Send(b,1,MPI_INT,-1,0,MPI_COMM_WORLD);
+0@MPI_Send(b,1,MPI_INT,0,0,MPI_COMM_WORLD);
+113@MPI_Send(b,1,MPI_INT,1,0,MPI_COMM_WORLD);
+114@MPI_Send(b,1,MPI_INT,0,-2,MPI_COMM_WORLD);
+114@MPI_Send(b,1,MPI_INT,0,-1,MPI_COMM_WORLD);
+0@MPI_Send(b,1,MPI_INT,0,0,MPI_COMM_WORLD);
+0@MPI_Send(b,1,MPI_INT,0,32767,MPI_COMM_WORLD);
+114@MPI_Send(b,1,MPI_INT,0,32768,MPI_COMM_WORLD);
+116@MPI_Send(b,4097,MPI_INT,1,-1,MPI_COMM_WORLD);
+113@MPI_Send(b,1,MPI_INT,1,-1,MPI_COMM_WORLD);
+114@MPI_Send(NULL,1,MPI_INT,0,-1,MPI_COMM_WORLD);
+101@MPI_Send(NULL,1,MPI_INT,0,0,MPI_COMM_WORLD);
+116@MPI_Send(b,4097,MPI_INT,MPI_PROC_NULL,0,MPI_COMM_WORLD);
+114@MPI_Send(b,1,MPI_INT,MPI_PROC_NULL,32768,MPI_COMM_WORLD);
+0@MPI_Send(NULL,5,MPI_INT,MPI_PROC_NULL,0,MPI_COMM_WORLD);
+0@MPI_Send(a,3,MPI_INT,0,0,MPI_COMM_WORLD);
+102@MPI_Send(a,4,MPI_INT,0,0,MPI_COMM_WORLD);
+0@MPI_Send(a+1,2,MPI_INT,0,0,MPI_COMM_WORLD);
+102@MPI_Send(a+1,3,MPI_INT,0,0,MPI_COMM_WORLD);
+0@MPI_Send(a+3,0,MPI_INT,0,0,MPI_COMM_WORLD);
+102@MPI_Send(a+3,1,MPI_INT,0,0,MPI_COMM_WORLD);
+0@MPI_Send(NULL,0,MPI_INT,0,0,MPI_COMM_WORLD);
+0@MPI_Send(&c,1,MPI_INT,0,0,MPI_COMM_WORLD);
+102@MPI_Send(&c,2,MPI_INT,0,0,MPI_COMM_WORLD);
+0@MPI_Send(&b[4095],1,MPI_INT,0,0,MPI_COMM_WORLD);
+103@p=malloc(8);free(p);MPI_Send(p,1,MPI_INT,0,0,MPI_COMM_WORLD);
+0@p=malloc(8);free(p);MPI_Send(p,0,MPI_INT,0,0,MPI_COMM_WORLD);
+0@p=malloc(8);MPI_Send(p,2,MPI_INT,0,0,MPI_COMM_WORLD);
+102@p=malloc(8);MPI_Send(p,3,MPI_INT,0,0,MPI_COMM_WORLD);
+102@p=malloc(8);MPI_Send(p+2,1,MPI_INT,0,0,MPI_COMM_WORLD);
+116@MPI_Recv(b,-1,MPI_INT,0,0,MPI_COMM_WORLD,&st);
+116@MPI_Recv(b,4097,MPI_INT,0,0,MPI_COMM_WORLD,&st);
+113@MPI_Recv(b,1,MPI_INT,-3,0,MPI_COMM_WORLD,&st);
+113@MPI_Recv(b,1,MPI_INT,-1,0,MPI_COMM_WORLD,&st);
+113@MPI_Recv(b,1,MPI_INT,1,0,MPI_COMM_WORLD,&st);
+114@MPI_Recv(b,1,MPI_INT,0,-2,MPI_COMM_WORLD,&st);
+114@MPI_Recv(b,1,MPI_INT,0,32768,MPI_COMM_WORLD,&st);
+116@MPI_Recv(b,4097,MPI_INT,1,-2,MPI_COMM_WORLD,&st);
+113@MPI_Recv(b,1,MPI_INT,1,-2,MPI_COMM_WORLD,&st);
+114@MPI_Recv(NULL,1,MPI_INT,0,-2,MPI_COMM_WORLD,NULL);
+101@MPI_Recv(NULL,1,MPI_INT,0,0,MPI_COMM_WORLD,&st);
+102@MPI_Recv(a,4,MPI_INT,0,0,MPI_COMM_WORLD,NULL);
+101@MPI_Recv(a,3,MPI_INT,0,0,MPI_COMM_WORLD,NULL);
+102@MPI_Recv(NULL,0,MPI_INT,0,0,MPI_COMM_WORLD,&st+1);
+103@MPI_Status *q=malloc(16);free(q);MPI_Recv(a,1,MPI_INT,0,0,MPI_COMM_WORLD,q);
+101@MPI_Recv(NULL,3,MPI_INT,MPI_PROC_NULL,0,MPI_COMM_WORLD,NULL);
+0@MPI_Recv(NULL,3,MPI_INT,MPI_PROC_NULL,0,MPI_COMM_WORLD,MPI_STATUS_IGNORE);
+116@MPI_Recv(b,4097,MPI_INT,MPI_PROC_NULL,0,MPI_COMM_WORLD,&st);
+114@MPI_Recv(b,1,MPI_INT,MPI_PROC_NULL,-2,MPI_COMM_WORLD,&st);
+0@MPI_Send(b,3,MPI_INT,0,5,MPI_COMM_WORLD);MPI_Recv(a,3,MPI_INT,0,5,MPI_COMM_WORLD,&st);
+111@MPI_Send(b,3,MPI_INT,0,5,MPI_COMM_WORLD);MPI_Recv(a,2,MPI_INT,0,5,MPI_COMM_WORLD,&st);
+112@MPI_Send(b,3,MPI_INT,0,5,MPI_COMM_WORLD);MPI_Recv(&l,1,MPI_LONG,0,5,MPI_COMM_WORLD,&st);
+0@MPI_Send(b,3,MPI_INT,0,5,MPI_COMM_WORLD);MPI_Recv(a,3,MPI_INT,0,MPI_ANY_TAG,MPI_COMM_WORLD,&st);
+0@MPI_Send(b,3,MPI_INT,0,5,MPI_COMM_WORLD);MPI_Recv(b,4096,MPI_INT,0,5,MPI_COMM_WORLD,&st);
+112@MPI_Send(b,3,MPI_INT,0,5,MPI_COMM_WORLD);MPI_Recv(s,3,MPI_CHAR,0,5,MPI_COMM_WORLD,&st);
+111@MPI_Send(b,3,MPI_INT,0,5,MPI_COMM_WORLD);MPI_Recv(NULL,0,MPI_INT,0,5,MPI_COMM_WORLD,&st);
+0@MPI_Get_count(&st,MPI_INT,&c);
+101@MPI_Get_count(NULL,MPI_INT,&c);
+101@MPI_Get_count(&st,MPI_INT,NULL);
+102@MPI_Get_count(&st,MPI_INT,a+3);
+102@MPI_Get_count(&st+1,MPI_INT,&c);
+112@MPI_Send(b,3,MPI_INT,0,5,MPI_COMM_WORLD);MPI_Recv(a,3,MPI_INT,0,5,MPI_COMM_WORLD,&st);MPI_Get_count(&st,MPI_LONG,&c);
+101@MPI_Send(b,3,MPI_INT,0,5,MPI_COMM_WORLD);MPI_Recv(a,3,MPI_INT,0,5,MPI_COMM_WORLD,&st);MPI_Get_count(&st,MPI_LONG,NULL);
+0@MPI_Send(b,3,MPI_INT,0,5,MPI_COMM_WORLD);MPI_Recv(a,3,MPI_INT,0,5,MPI_COMM_WORLD,&st);MPI_Get_count(&st,MPI_INT,&c);
+101@MPI_Comm_rank(MPI_COMM_WORLD,NULL);
+102@MPI_Comm_rank(MPI_COMM_WORLD,a+3);
+103@p=malloc(4);free(p);MPI_Comm_rank(MPI_COMM_WORLD,p);
+0@MPI_Comm_rank(MPI_COMM_WORLD,a+2);
+101@MPI_Comm_size(MPI_COMM_WORLD,NULL);
+102@MPI_Comm_size(MPI_COMM_WORLD,a+3);
+103@p=malloc(4);free(p);MPI_Comm_size(MPI_COMM_WORLD,p);
+0@MPI_Comm_size(MPI_COMM_WORLD,a+2);
+117@MPI_Init(NULL,NULL);
+0@MPI_Finalize();
+117@MPI_Finalize();MPI_Finalize();
+117@MPI_Finalize();MPI_Init(NULL,NULL);
+117@MPI_Finalize();MPI_Send(b,-1,MPI_INT,9,-9,MPI_COMM_WORLD);
+117@MPI_Finalize();MPI_Recv(b,-1,MPI_INT,9,-9,MPI_COMM_WORLD,NULL);
+117@MPI_Finalize();MPI_Comm_rank(MPI_COMM_WORLD,NULL);
+117@MPI_Finalize();MPI_Comm_size(MPI_COMM_WORLD,NULL);
+117@MPI_Finalize();MPI_Get_count(NULL,MPI_INT,NULL);
+"#;
+    for line in table.trim().lines() {
+        let (code, body) = line.split_once('@').expect(&rt, "a marked line");
         let input = in_main(rt.alloc(), "MPI_Init(NULL,NULL);", body)?;
-        let (_, written) = answered(rt.alloc(), "plain 1", &input)?;
-        assert_eq!(rt;
-            written.as_slice(),
-            ended(rt.alloc(), code)?.as_slice(),
-            "at {body}"
-        );
+        assert_ended(&rt, rt.alloc(), code, &input)?;
     }
     Ok(())
 }
@@ -579,12 +467,7 @@ fn needs_init_first(rt: HostRuntime) -> Result<(), Fail> {
     ];
     for body in rows {
         let input = in_main(rt.alloc(), "", body)?;
-        let (_, written) = answered(rt.alloc(), "plain 1", &input)?;
-        assert_eq!(rt;
-            written.as_slice(),
-            ended(rt.alloc(), 117)?.as_slice(),
-            "at {body}"
-        );
+        assert_ended(&rt, rt.alloc(), "117", &input)?;
     }
     Ok(())
 }
@@ -592,50 +475,23 @@ fn needs_init_first(rt: HostRuntime) -> Result<(), Fail> {
 // What a receive leaves behind.
 #[test]
 fn writes_elements_and_statuses(rt: HostRuntime) -> Result<(), Fail> {
-    let rows = [
-        (
-            "st.MPI_SOURCE=9;st.MPI_TAG=9;a[0]=4;MPI_Recv(a,1,MPI_INT,MPI_PROC_NULL,7,MPI_COMM_WORLD,&st);MPI_Get_count(&st,MPI_LONG,&c);printf(\"%d %d %d %d\\n\",st.MPI_SOURCE,st.MPI_TAG,c,a[0]);int *q=&st.MPI_SOURCE;printf(\"%d %d %d %d\\n\",q[0],q[1],q[2],q[3]);",
-            "rank 0 exit 0 bytes 20\n-2 -1 0 4\n-2 -1 0 0\nfinished\n",
-        ),
-        (
-            "MPI_Send(b,3,MPI_INT,0,5,MPI_COMM_WORLD);MPI_Recv(a,3,MPI_INT,0,MPI_ANY_TAG,MPI_COMM_WORLD,&st);int *q=&st.MPI_SOURCE;printf(\"%d %d %d %d\\n\",q[0],q[1],q[2],q[3]);",
-            "rank 0 exit 0 bytes 8\n0 5 3 2\nfinished\n",
-        ),
-        (
-            "MPI_Send(s,2,MPI_CHAR,0,0,MPI_COMM_WORLD);MPI_Recv(s,3,MPI_CHAR,0,0,MPI_COMM_WORLD,&st);int *q=&st.MPI_SOURCE;printf(\"%d %d %d %d\\n\",q[0],q[1],q[2],q[3]);",
-            "rank 0 exit 0 bytes 8\n0 0 2 1\nfinished\n",
-        ),
-        (
-            "MPI_Send(&l,1,MPI_LONG,0,32767,MPI_COMM_WORLD);MPI_Recv(&l,1,MPI_LONG,0,32767,MPI_COMM_WORLD,&st);int *q=&st.MPI_SOURCE;printf(\"%d %d %d %d\\n\",q[0],q[1],q[2],q[3]);",
-            "rank 0 exit 0 bytes 12\n0 32767 1 3\nfinished\n",
-        ),
-        (
-            "MPI_Send(NULL,0,MPI_INT,0,1,MPI_COMM_WORLD);MPI_Recv(NULL,0,MPI_INT,0,1,MPI_COMM_WORLD,&st);int *q=&st.MPI_SOURCE;printf(\"%d %d %d %d\\n\",q[0],q[1],q[2],q[3]);",
-            "rank 0 exit 0 bytes 8\n0 1 0 2\nfinished\n",
-        ),
-        (
-            "a[0]=1;a[1]=8;a[2]=9;MPI_Send(a,1,MPI_INT,0,0,MPI_COMM_WORLD);a[0]=7;MPI_Recv(a,3,MPI_INT,0,0,MPI_COMM_WORLD,MPI_STATUS_IGNORE);printf(\"%d%d%d\\n\",a[0],a[1],a[2]);",
-            "rank 0 exit 0 bytes 4\n189\nfinished\n",
-        ),
-        (
-            "a[0]=77;MPI_Send(a,1,MPI_INT,0,5,MPI_COMM_WORLD);MPI_Recv(&st.MPI_SOURCE,1,MPI_INT,0,5,MPI_COMM_WORLD,&st);int *q=&st.MPI_SOURCE;printf(\"%d %d %d %d\\n\",q[0],q[1],q[2],q[3]);",
-            "rank 0 exit 0 bytes 8\n0 5 1 2\nfinished\n",
-        ),
-        (
-            "a[0]=1;MPI_Send(a,1,MPI_INT,0,5,MPI_COMM_WORLD);a[0]=2;MPI_Send(a,1,MPI_INT,0,5,MPI_COMM_WORLD);MPI_Recv(a+1,1,MPI_INT,0,5,MPI_COMM_WORLD,MPI_STATUS_IGNORE);MPI_Recv(a+2,1,MPI_INT,0,5,MPI_COMM_WORLD,MPI_STATUS_IGNORE);printf(\"%d%d\\n\",a[1],a[2]);",
-            "rank 0 exit 0 bytes 3\n12\nfinished\n",
-        ),
-        (
-            "s[0]=-5;s[1]=127;l=-9223372036854775807-1;MPI_Send(s,2,MPI_CHAR,0,0,MPI_COMM_WORLD);MPI_Send(&l,1,MPI_LONG,0,1,MPI_COMM_WORLD);s[0]=0;l=0;MPI_Recv(&l,1,MPI_LONG,0,1,MPI_COMM_WORLD,MPI_STATUS_IGNORE);MPI_Recv(s+1,2,MPI_CHAR,0,0,MPI_COMM_WORLD,MPI_STATUS_IGNORE);printf(\"%d %d %ld\\n\",s[1],s[2],l);",
-            "rank 0 exit 0 bytes 28\n-5 127 -9223372036854775808\nfinished\n",
-        ),
-        (
-            "MPI_Comm_rank(MPI_COMM_WORLD,a);MPI_Comm_size(MPI_COMM_WORLD,a+1);printf(\"%d%d\\n\",a[0],a[1]);MPI_Finalize();printf(\"%ld\\n\",sizeof(MPI_Status));",
-            "rank 0 exit 0 bytes 6\n01\n16\nfinished\n",
-        ),
-    ];
-    for (body, text) in rows {
+    let table = r#"
+st.MPI_SOURCE=9;st.MPI_TAG=9;a[0]=4;MPI_Recv(a,1,MPI_INT,MPI_PROC_NULL,7,MPI_COMM_WORLD,&st);MPI_Get_count(&st,MPI_LONG,&c);printf("%d %d %d %d\n",st.MPI_SOURCE,st.MPI_TAG,c,a[0]);int *q=&st.MPI_SOURCE;printf("%d %d %d %d\n",q[0],q[1],q[2],q[3]);@rank 0 exit 0 bytes 20⏎-2 -1 0 4⏎-2 -1 0 0⏎finished⏎
+MPI_Send(b,3,MPI_INT,0,5,MPI_COMM_WORLD);MPI_Recv(a,3,MPI_INT,0,MPI_ANY_TAG,MPI_COMM_WORLD,&st);int *q=&st.MPI_SOURCE;printf("%d %d %d %d\n",q[0],q[1],q[2],q[3]);@rank 0 exit 0 bytes 8⏎0 5 3 2⏎finished⏎
+MPI_Send(s,2,MPI_CHAR,0,0,MPI_COMM_WORLD);MPI_Recv(s,3,MPI_CHAR,0,0,MPI_COMM_WORLD,&st);int *q=&st.MPI_SOURCE;printf("%d %d %d %d\n",q[0],q[1],q[2],q[3]);@rank 0 exit 0 bytes 8⏎0 0 2 1⏎finished⏎
+MPI_Send(&l,1,MPI_LONG,0,32767,MPI_COMM_WORLD);MPI_Recv(&l,1,MPI_LONG,0,32767,MPI_COMM_WORLD,&st);int *q=&st.MPI_SOURCE;printf("%d %d %d %d\n",q[0],q[1],q[2],q[3]);@rank 0 exit 0 bytes 12⏎0 32767 1 3⏎finished⏎
+MPI_Send(NULL,0,MPI_INT,0,1,MPI_COMM_WORLD);MPI_Recv(NULL,0,MPI_INT,0,1,MPI_COMM_WORLD,&st);int *q=&st.MPI_SOURCE;printf("%d %d %d %d\n",q[0],q[1],q[2],q[3]);@rank 0 exit 0 bytes 8⏎0 1 0 2⏎finished⏎
+a[0]=1;a[1]=8;a[2]=9;MPI_Send(a,1,MPI_INT,0,0,MPI_COMM_WORLD);a[0]=7;MPI_Recv(a,3,MPI_INT,0,0,MPI_COMM_WORLD,MPI_STATUS_IGNORE);printf("%d%d%d\n",a[0],a[1],a[2]);@rank 0 exit 0 bytes 4⏎189⏎finished⏎
+a[0]=77;MPI_Send(a,1,MPI_INT,0,5,MPI_COMM_WORLD);MPI_Recv(&st.MPI_SOURCE,1,MPI_INT,0,5,MPI_COMM_WORLD,&st);int *q=&st.MPI_SOURCE;printf("%d %d %d %d\n",q[0],q[1],q[2],q[3]);@rank 0 exit 0 bytes 8⏎0 5 1 2⏎finished⏎
+a[0]=1;MPI_Send(a,1,MPI_INT,0,5,MPI_COMM_WORLD);a[0]=2;MPI_Send(a,1,MPI_INT,0,5,MPI_COMM_WORLD);MPI_Recv(a+1,1,MPI_INT,0,5,MPI_COMM_WORLD,MPI_STATUS_IGNORE);MPI_Recv(a+2,1,MPI_INT,0,5,MPI_COMM_WORLD,MPI_STATUS_IGNORE);printf("%d%d\n",a[1],a[2]);@rank 0 exit 0 bytes 3⏎12⏎finished⏎
+s[0]=-5;s[1]=127;l=-9223372036854775807-1;MPI_Send(s,2,MPI_CHAR,0,0,MPI_COMM_WORLD);MPI_Send(&l,1,MPI_LONG,0,1,MPI_COMM_WORLD);s[0]=0;l=0;MPI_Recv(&l,1,MPI_LONG,0,1,MPI_COMM_WORLD,MPI_STATUS_IGNORE);MPI_Recv(s+1,2,MPI_CHAR,0,0,MPI_COMM_WORLD,MPI_STATUS_IGNORE);printf("%d %d %ld\n",s[1],s[2],l);@rank 0 exit 0 bytes 28⏎-5 127 -9223372036854775808⏎finished⏎
+MPI_Comm_rank(MPI_COMM_WORLD,a);MPI_Comm_size(MPI_COMM_WORLD,a+1);printf("%d%d\n",a[0],a[1]);MPI_Finalize();printf("%ld\n",sizeof(MPI_Status));@rank 0 exit 0 bytes 6⏎01⏎16⏎finished⏎
+"#;
+    for line in table.trim().lines() {
+        let (body, answer) = line.split_once('@').expect(&rt, "a marked line");
         let input = in_main(rt.alloc(), "MPI_Init(NULL,NULL);", body)?;
+        let mut text = String::new(rt.alloc());
+        push_line(&mut text, answer)?;
         let (_, written) = answered(rt.alloc(), "plain 1", &input)?;
         assert_eq!(rt; written.as_slice(), text.as_bytes(), "at {body}");
     }

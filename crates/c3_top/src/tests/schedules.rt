@@ -125,12 +125,18 @@ fn finds_the_line(rt: HostRuntime) -> Result<(), Fail> {
             "bad schedule at 3\n",
             4,
         ),
-        // What isn't the line belongs to the text.
+        // A comment doesn't hide the line. What isn't the line belongs to the text.
+        (
+            "plain 1",
+            "/*\n#pragma ccc schedule\nt0",
+            "refused Syntax at 50\n",
+            3,
+        ),
         (
             "plain 1",
             "/*\n#pragma ccc schedule\nt0 */",
-            "refused Syntax at 50\n",
-            3,
+            "bad schedule at 3\n",
+            4,
         ),
         (
             "plain 1",
@@ -167,4 +173,34 @@ fn finds_the_line(rt: HostRuntime) -> Result<(), Fail> {
     assert_answers(&rt, rt.alloc(), TWO_RANKS, &rows)?;
     let rows = [("plain 1", "\nt0", "refused NoMain at 0\n", 3)];
     assert_answers(&rt, rt.alloc(), "#pragma ccc schedule", &rows)
+}
+
+const LETTERS: &str = "aaaaaaaaaaaaaaaaaaaaaaaaaaaaaaaaaaaaaaaaaaaaaaaaaaaaaaaaaaaaaaaa";
+
+#[test]
+fn prints_to_the_limit(rt: HostRuntime) -> Result<(), Fail> {
+    let alloc = rt.alloc();
+    let rows = [
+        ("", "rank 0 exit 0 bytes 1048576\n"),
+        ("printf(\"a\");", "rank 0 fault 109 bytes 1048576\n"),
+    ];
+    for (after, head) in rows {
+        let mut input = String::from_str(
+            alloc,
+            "int main(void){int i;for(i=0;i<16384;i++)printf(\"",
+        )?;
+        let mut answer = String::from_str(alloc, head)?;
+        input.push_str(LETTERS)?;
+        input.push_str("\");")?;
+        input.push_str(after)?;
+        input.push_str("return 0;}\n#pragma ccc schedule\nt0*16385")?;
+        for _ in 0..16384 {
+            answer.push_str(LETTERS)?;
+        }
+        answer.push_str("finished\n")?;
+        let (status, written) = answered(alloc, "plain 1", input.as_bytes())?;
+        assert_eq!(rt; code(&status), 0, "after: {after}");
+        assert_eq!(rt; written.as_slice(), answer.as_bytes(), "after: {after}");
+    }
+    Ok(())
 }
