@@ -11,7 +11,6 @@ use Rattle.c_kernel.specs.declared.types.CType.{CType}
 use Rattle.c_kernel.specs.declared.types.Extent.{Extent}
 use Rattle.c_kernel.specs.declared.types.ObjectType.{ObjectType}
 use Rattle.c_kernel.specs.declared.types.Struct.{Struct}
-use Rattle.c_kernel.specs.declared.types.Member.{Member}
 use Rattle.c_kernel.specs.Extent.{extent, nothing}
 use Rattle.c_rules.specs.declared.fault.Fault.{Fault}
 use Rattle.c_rules.specs.Judged.{breaks}

@@ -295,7 +295,7 @@ fn guarded(
     looping: bool,
     body: &Stmt,
     test: &Expr,
-) -> Result<Option<(Term, Typed)>, AllocError>
+) -> Result<Option<(Boxed<Term>, Typed)>, AllocError>
     ensures found { IfOk result (λ found. found ≡ (walked_guarded (called functions.now.entries) structs.now result_type looping test.now body.now (scope_of scope.old)).judged.found) }
     ensures faults { OnOk result (faults.new.items ≡ faults.old.items ++ (walked_guarded (called functions.now.entries) structs.now result_type looping test.now body.now (scope_of scope.old)).judged.faults) }
     ensures scope { OnOk result (scope_of scope.new ≡ (walked_guarded (called functions.now.entries) structs.now result_type looping test.now body.now (scope_of scope.old)).scope) }

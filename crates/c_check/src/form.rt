@@ -8,7 +8,7 @@ ghost use Rattle.c_kernel.specs.declared.program.Stmt.TheVariants as typed;
 use crate::expression::both;
 use crate::single::one;
 use c_kernel::program::{Action, Arm, Expr as Term, Stmt as Typed};
-use sqlite_items::Items;
+use sqlite_items::{Boxed, Items};
 use std::alloc::{AllocError, Global};
 
 /// A block.
@@ -22,13 +22,17 @@ pub fn block_of(steps: Option<Items<Typed>>) -> Option<Typed>
 }
 
 /// A branch of an `if`.
-pub fn arm_of(alloc: Global, parts: Option<(Term, Typed)>) -> Result<Option<Arm<Typed>>, AllocError>
+pub fn arm_of(
+    alloc: Global,
+    parts: Option<(Boxed<Term>, Typed)>,
+) -> Result<Option<Arm<Typed>>, AllocError>
     ensures { IfOk result (λ found. found ≡ option_map walk.branch_of parts) }
 {
     match parts {
         None => Ok(None),
         Some((test, body)) => {
             let body = one(alloc, body)?;
+            let test = test.into_inner();
             Ok(Some(Arm { test, body }))
         }
     }
@@ -63,38 +67,56 @@ pub fn if_of(arms: Option<Items<Arm<Typed>>>, last: Option<Items<Typed>>) -> Opt
 }
 
 /// A `while`.
-pub fn while_of(alloc: Global, parts: Option<(Term, Typed)>) -> Result<Option<Typed>, AllocError>
+pub fn while_of(
+    alloc: Global,
+    parts: Option<(Boxed<Term>, Typed)>,
+) -> Result<Option<Typed>, AllocError>
     ensures { IfOk result (λ found. found ≡ option_map (λ p. typed.While p.0 (walk.one p.1)) parts) }
 {
     match parts {
         None => Ok(None),
         Some((test, body)) => {
             let body = one(alloc, body)?;
+            let test = test.into_inner();
             Ok(Some(Typed::While { test, body }))
         }
     }
 }
 
 /// A `do`.
-pub fn do_of(alloc: Global, parts: Option<(Term, Typed)>) -> Result<Option<Typed>, AllocError>
+pub fn do_of(
+    alloc: Global,
+    parts: Option<(Boxed<Term>, Typed)>,
+) -> Result<Option<Typed>, AllocError>
     ensures { IfOk result (λ found. found ≡ option_map (λ p. typed.DoWhile (walk.one p.1) p.0) parts) }
 {
     match parts {
         None => Ok(None),
         Some((test, body)) => {
             let body = one(alloc, body)?;
+            let test = test.into_inner();
             Ok(Some(Typed::DoWhile { body, test }))
         }
     }
 }
 
 // A list of one, or of none.
-fn listed(alloc: Global, x: Option<Action>) -> Result<Items<Action>, AllocError>
+fn listed(alloc: Global, x: Option<Boxed<Action>>) -> Result<Items<Action>, AllocError>
     ensures { IfOk result (λ xs. xs ≡ walk.listed x) }
 {
     match x {
         None => Ok(Items::new(alloc)),
-        Some(x) => one(alloc, x),
+        Some(x) => one(alloc, x.into_inner()),
+    }
+}
+
+// What is in the box, where there is one.
+fn unboxed<T>(x: Option<Boxed<T>>) -> Option<T>
+    ensures { result ≡ x }
+{
+    match x {
+        None => None,
+        Some(x) => Some(x.into_inner()),
     }
 }
 
@@ -102,8 +124,8 @@ fn listed(alloc: Global, x: Option<Action>) -> Result<Items<Action>, AllocError>
 pub fn for_of(
     alloc: Global,
     start: Option<Items<Action>>,
-    test: Option<Option<Term>>,
-    step: Option<Option<Action>>,
+    test: Option<Option<Boxed<Term>>>,
+    step: Option<Option<Boxed<Action>>>,
     body: Option<Typed>,
 ) -> Result<Option<Typed>, AllocError>
     ensures { IfOk result (λ found. found ≡ option_map (λ p. typed.For p.0.0 p.0.1 (walk.listed p.1.0) (walk.one p.1.1)) (nodes.both (nodes.both start test) (nodes.both step body))) }
@@ -111,11 +133,11 @@ pub fn for_of(
     match both(both(start, test), both(step, body)) {
         None => Ok(None),
         Some(((start, test), (step, body))) => {
-            let step = listed(alloc, step)?;
             let body = one(alloc, body)?;
+            let step = listed(alloc, step)?;
             Ok(Some(Typed::For {
                 start,
-                test,
+                test: unboxed(test),
                 step,
                 body,
             }))

@@ -20,7 +20,7 @@ use c_rules::signature::Signature;
 use c_tree::Kind;
 use c_tree::tree::{Declaration, Expr, ForStart, SimpleStatement, Text};
 use indexmap::IndexMap;
-use sqlite_items::Items;
+use sqlite_items::{Boxed, Items};
 use std::alloc::{AllocError, Global};
 
 /// A list of one.
@@ -206,7 +206,7 @@ pub fn loop_test(
     structs: &[Struct],
     scope: &Scope,
     e: &Option<Expr>,
-) -> Result<Option<Option<Term>>, AllocError>
+) -> Result<Option<Option<Boxed<Term>>>, AllocError>
     ensures found { IfOk result (λ found. found ≡ (nodes.perhaps (walk.condition (called functions.now.entries) structs.now (scope_of scope.now)) e.now).found) }
     ensures faults { OnOk result (faults.new.items ≡ faults.old.items ++ (nodes.perhaps (walk.condition (called functions.now.entries) structs.now (scope_of scope.now)) e.now).faults) }
 {
@@ -227,7 +227,7 @@ pub fn loop_step(
     structs: &[Struct],
     scope: &Scope,
     s: &Option<SimpleStatement>,
-) -> Result<Option<Option<Action>>, AllocError>
+) -> Result<Option<Option<Boxed<Action>>>, AllocError>
     ensures found { IfOk result (λ found. found ≡ (nodes.perhaps (walk.simple (called functions.now.entries) structs.now (scope_of scope.now)) s.now).found) }
     ensures faults { OnOk result (faults.new.items ≡ faults.old.items ++ (nodes.perhaps (walk.simple (called functions.now.entries) structs.now (scope_of scope.now)) s.now).faults) }
 {
@@ -235,7 +235,7 @@ pub fn loop_step(
         None => Ok(Some(None)),
         Some(s) => match simple(alloc, faults, functions, structs, scope, s)? {
             None => Ok(None),
-            Some(action) => Ok(Some(Some(action))),
+            Some(action) => Ok(Some(Some(Boxed::new(alloc, action)?))),
         },
     }
 }

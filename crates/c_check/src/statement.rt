@@ -28,7 +28,7 @@ use c_rules::types::{
 use c_tree::tree::{Expr, Name, SimpleStatement, Step, Text, TypeName};
 use c_tree::{Kind, Operator};
 use indexmap::IndexMap;
-use sqlite_items::Items;
+use sqlite_items::{Boxed, Items};
 use std::alloc::{AllocError, Global};
 
 // ---- what stands at once
@@ -213,7 +213,7 @@ fn condition_of(
     alloc: Global,
     faults: &mut Vec<Fault>,
     a: Found,
-) -> Result<Option<Term>, AllocError>
+) -> Result<Option<Boxed<Term>>, AllocError>
     ensures found { IfOk result (λ found. found ≡ (walk.condition_of a).found) }
     ensures faults { OnOk result (faults.new.items ≡ faults.old.items ++ (walk.condition_of a).faults) }
 {
@@ -222,7 +222,7 @@ fn condition_of(
     if faults.len() > before {
         return Ok(None);
     }
-    Ok(Some(value(alloc, a)?.into_inner()))
+    Ok(Some(value(alloc, a)?))
 }
 
 /// `return`.
@@ -340,7 +340,7 @@ pub fn condition(
     structs: &[Struct],
     scope: &Scope,
     e: &Expr,
-) -> Result<Option<Term>, AllocError>
+) -> Result<Option<Boxed<Term>>, AllocError>
     ensures found { IfOk result (λ found. found ≡ (walk.condition (called functions.now.entries) structs.now (scope_of scope.now) e.now).found) }
     ensures faults { OnOk result (faults.new.items ≡ faults.old.items ++ (walk.condition (called functions.now.entries) structs.now (scope_of scope.now) e.now).faults) }
 {

@@ -1,4 +1,4 @@
-use Rattle.std.proofs.Common.{◌≡◌, arith}
+use Rattle.std.proofs.Common.{arith}
 use Rattle.c_rules.specs.Table.{called}
 use Rattle.c_check.specs.Functions.{name_rules, type_rules, parts_rules}
 use Rattle.c_check.proofs.Silences.{silent}
