@@ -1,9 +1,9 @@
 -- Known bytes over several calls.
-use Rattle.std.proofs.Common.{ℕ, ◌≤◌, ◌<◌, List, [], ◌++◌, length, None, Some, sym, ap, ◌∙◌, append_assoc, length-append, arith, refl}
+use Rattle.std.proofs.Common.{ℕ, ◌<◌, List, [], ◌++◌, length, drop, None, Some, sym, ap, ◌∙◌, append_assoc, length-append, arith, refl}
 use Rattle.std.specs.Prelude.{Option}
-use Rattle.std.proofs.lemmas.List.{append-nil}
+use Rattle.std.proofs.lemmas.List.{append-nil, drop_at}
 use Rattle.std.specs.Io.KnownBytes.{Keeps, Appends, Consumes, IsAtEnd}
-use Rattle.c3_io.specs.Streams.{AreAll, HasMoreThan, TakesAtMost}
+use Rattle.c3_io.specs.Streams.{AreAll, HasMoreThan, Took}
 
 pub Appends-nil : (a : Option (List ℕ)) → Appends a a []
 Appends-nil None = tt
@@ -64,8 +64,8 @@ HasMoreThan-from_Consumes None b bs limit p lt = (bs, tt, lt)
 HasMoreThan-from_Consumes (Some x) None bs limit p lt = absurd p
 HasMoreThan-from_Consumes (Some x) (Some y) bs limit p lt = (x, refl, omega (arith, ap length p, length-append bs y))
 
--- what was taken is no longer than that
-pub TakesAtMost-from_Consumes : (a b : Option (List ℕ)) (bs : List ℕ) (n : ℕ) → Consumes a b bs → length bs ≤ n → TakesAtMost a b n
-TakesAtMost-from_Consumes None b bs n p le = tt
-TakesAtMost-from_Consumes (Some x) None bs n p le = absurd p
-TakesAtMost-from_Consumes (Some x) (Some y) bs n p le = omega (arith, ap length p, length-append bs y)
+-- what was taken is the front of what was there
+pub Took-from_Consumes : (a b : Option (List ℕ)) (bs : List ℕ) → Consumes a b bs → Took a b (length bs)
+Took-from_Consumes None b bs p = tt
+Took-from_Consumes (Some x) None bs p = absurd p
+Took-from_Consumes (Some x) (Some y) bs p = (omega (arith, ap length p, length-append bs y), ap Some (sym (ap (λ l. drop (length bs) l) p ∙ drop_at bs y (length bs) refl)))

@@ -1,8 +1,8 @@
-ghost use Rattle.std.specs.Prelude.{◌≡◌, ◌+◌, ◌<◌, ◌≤◌, length, take, IfOk, OnOk, IfErr, IsErrOf};
+ghost use Rattle.std.specs.Prelude.{◌≡◌, ◌+◌, ◌<◌, ◌≤◌, ℕ, length, take, IfOk, OnOk, IfErr, IsErrOf};
 ghost use Rattle.std.specs.Io.KnownBytes.{Appends};
 ghost use Rattle.c3_io.specs.declared.whole.ReadAllFault.TheVariants.{NoMemory};
 ghost use Rattle.c3_io.specs.Faults.{Rose, HasCause};
-ghost use Rattle.c3_io.specs.Streams.{AreAll, HasMoreThan, TakesAtMost};
+ghost use Rattle.c3_io.specs.Streams.{AreAll, HasMoreThan, Took};
 
 use crate::{Failed, Sink, Source};
 use std::alloc::{AllocError, Global};
@@ -39,7 +39,10 @@ pub fn read_all<S: Source>(
     ensures no_fault { OnOk result (S.faults source.new ≡ S.faults source.old) }
     ensures no_fault_too_long { IsErrOf result ReadAllFault.TooLong → S.faults source.new ≡ S.faults source.old }
     ensures later { S.faults source.old ≤ S.faults source.new }
-    ensures at_most { TakesAtMost (S.left source.old) (S.left source.new) (limit + 1) }
+    // What was taken is a front of what was left, also after a fault.
+    ensures took { (n : ℕ) × (n ≤ limit + 1) × Took (S.left source.old) (S.left source.new) n }
+    ensures took_all { IfOk result (λ bytes. Took (S.left source.old) (S.left source.new) (length bytes.items)) }
+    ensures took_too_long { IsErrOf result ReadAllFault.TooLong → Took (S.left source.old) (S.left source.new) (limit + 1) }
 {
     let mut bytes = Vec::new(alloc);
     let mut chunk = [0u8; CHUNK];
