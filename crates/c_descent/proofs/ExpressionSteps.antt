@@ -3,11 +3,13 @@ use Rattle.std.proofs.Common.{◌≡◌, ◌∙◌, ◌≤◌, ◌<◌, ◌-◌,
 use Rattle.c_tree.specs.declared.token.Token.{Token}
 use Rattle.c_tree.specs.declared.tree.Expr.{Expr}
 use Rattle.c_grammar.specs.declared.fault.ReadError.{ReadError}
+use Rattle.c_grammar.specs.declared.fault.ReadError.TheVariants as error
+use Rattle.c_grammar.specs.declared.fault.Unread.{Unread}
 use Rattle.c_grammar.specs.Grammar.{Rule, Ref, Word, Kind, Many, Binary, Unary, Expression, binary, operand, operators, ◌⊳◌}
 use Rattle.c_grammar.specs.Meaning.{Forest, none, node, ◌+++◌}
 use Rattle.c_grammar.specs.Descent.{Reads, Read, Fault, Outcome}
 use Rattle.c_grammar.specs.Descent as descent
-use Rattle.c_grammar.specs.Gives.{Fails, Gives}
+use Rattle.c_grammar.specs.Gives.{Stops, Fails, Gives}
 use Rattle.c_grammar.specs.Trees.{Shape, shape, whole, at_grade, lifted, each}
 use Rattle.c_grammar.specs.Trees as trees
 use Rattle.c_grammar.proofs.Grades.{whole_lift, each_push}
@@ -74,6 +76,10 @@ pub more_passed_on : {X : Type 0} (view : X → Forest) (after : X → List Toke
 more_passed_on {X} view after front l r ts e o h f =
     let p = err_from_is_err_and o h in
     subst (λ (w : Result X ReadError). GivesMore view after front l r ts w) (sym p.1) (subst (λ (w : ReadError). Fails l r ts w) (sym p.2) f)
+
+-- the same of a fault
+pub more_stop_passed_on : {X : Type 0} (view : X → Forest) (after : X → List Token) (front : Forest) (l : ℕ) (r : Rule) (ts : List Token) (e : Unread) (o : Result X ReadError) → IsErrAnd o (λ y. y ≡ error.Unread e) → Stops l r ts e → GivesMore view after front l r ts o
+more_stop_passed_on view after front l r ts e = more_passed_on view after front l r ts (error.Unread e)
 
 -- an operand of a grade
 pub gives_operand : {A : Type 0} (after : Expr × A → List Token) (g h l : ℕ) (ts : List Token) (o : Result (Expr × A) ReadError) → g ≡ h → Gives (λ x. at_grade h (shape x.0)) after l (operand h) ts o → Gives (λ x. at_grade g (shape x.0)) after l (operand g) ts o

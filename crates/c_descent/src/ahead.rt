@@ -12,14 +12,14 @@ use c_tree::tree::PlainType;
 use c_tree::{Call, Class, Token};
 
 /// What is asked of a communicator.
-#[derive(Clone, Copy, Debug)]
+#[derive(Clone, Copy)]
 pub enum Inquiry {
     Rank,
     Size,
 }
 
 /// Which way the parts of a buffer move.
-#[derive(Clone, Copy, Debug)]
+#[derive(Clone, Copy)]
 pub enum Distribution {
     Gather,
     Scatter,

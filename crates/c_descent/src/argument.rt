@@ -4,13 +4,13 @@ ghost use Rattle.std.specs.Prelude.{◌≤◌, ◌<◌, ◌+◌, IfOk, length};
 ghost use Rattle.c_grammar.specs.Grammar as grammar;
 ghost use Rattle.c_grammar.specs.Grammar.{Ref, ◌⊳◌, comma, e, world};
 ghost use Rattle.c_grammar.specs.Meaning.{none, limit, ◌+++◌};
-ghost use Rattle.c_grammar.specs.Gives.{Gives};
+ghost use Rattle.c_grammar.specs.Gives.{Finds, Gives};
 ghost use Rattle.c_grammar.specs.Trees.{buffer_tree, datatype_row, expression_tree, reduction_row, status_tree};
 
 use crate::expression::expression;
-use c_grammar::ReadError;
 use c_grammar::ahead::{at_datatype, at_reduction, next_is};
 use c_grammar::reading::{pick, place, skip};
+use c_grammar::{ReadError, Unread};
 use c_tree::tree::{Buffer, DatatypeWord, Expr, ReductionWord, Status};
 use c_tree::{Class, Token};
 use sqlite_items::Boxed;
@@ -98,8 +98,8 @@ pub fn next_status(
 
 /// A comma and a datatype.
 #[tactic(auto, using(c_grammar::proofs::Steps::descent))]
-pub fn next_datatype(tokens: &[Token], level: u8) -> Result<(DatatypeWord, &[Token]), ReadError>
-    ensures reads { Gives (λ x. datatype_row x.0) (λ x. x.1.now) level (comma ⊳ grammar.datatype) tokens.now result }
+pub fn next_datatype(tokens: &[Token], level: u8) -> Result<(DatatypeWord, &[Token]), Unread>
+    ensures reads { Finds (λ x. datatype_row x.0) (λ x. x.1.now) level (comma ⊳ grammar.datatype) tokens.now result }
     ensures shorter { IfOk result (λ x. length x.1.now < length tokens.now) }
 {
     let rest = skip(tokens, Class::Comma, level)?;
@@ -109,8 +109,8 @@ pub fn next_datatype(tokens: &[Token], level: u8) -> Result<(DatatypeWord, &[Tok
 
 /// A comma and a reduction.
 #[tactic(auto, using(c_grammar::proofs::Steps::descent))]
-pub fn next_operation(tokens: &[Token], level: u8) -> Result<(ReductionWord, &[Token]), ReadError>
-    ensures reads { Gives (λ x. reduction_row x.0) (λ x. x.1.now) level (comma ⊳ grammar.operation) tokens.now result }
+pub fn next_operation(tokens: &[Token], level: u8) -> Result<(ReductionWord, &[Token]), Unread>
+    ensures reads { Finds (λ x. reduction_row x.0) (λ x. x.1.now) level (comma ⊳ grammar.operation) tokens.now result }
     ensures shorter { IfOk result (λ x. length x.1.now < length tokens.now) }
 {
     let rest = skip(tokens, Class::Comma, level)?;
@@ -120,8 +120,8 @@ pub fn next_operation(tokens: &[Token], level: u8) -> Result<(ReductionWord, &[T
 
 /// A comma and the communicator.
 #[tactic(auto, using(c_grammar::proofs::Steps::descent))]
-pub fn next_world(tokens: &[Token], level: u8) -> Result<&[Token], ReadError>
-    ensures reads { Gives (λ x. none) (λ x. x.now) level (comma ⊳ world) tokens.now result }
+pub fn next_world(tokens: &[Token], level: u8) -> Result<&[Token], Unread>
+    ensures reads { Finds (λ x. none) (λ x. x.now) level (comma ⊳ world) tokens.now result }
     ensures shorter { IfOk result (λ x. length x.now < length tokens.now) }
 {
     let rest = skip(tokens, Class::Comma, level)?;

@@ -4,7 +4,7 @@ ghost use Rattle.std.specs.Prelude.{◌≤◌, ◌<◌, ◌+◌, IfOk, length};
 ghost use Rattle.c_grammar.specs.Grammar as grammar;
 ghost use Rattle.c_grammar.specs.Grammar.{Ref, ◌⊳◌, address, init_inner, placed, word};
 ghost use Rattle.c_grammar.specs.Meaning.{leaf, node, none, limit};
-ghost use Rattle.c_grammar.specs.Gives.{Gives};
+ghost use Rattle.c_grammar.specs.Gives.{Finds, Gives};
 ghost use Rattle.c_grammar.specs.Trees.{call_tree, expression_tree, given, name_row, names_row};
 ghost use Rattle.c_tree.specs.declared.token.Class.TheVariants as class;
 ghost use Rattle.c_tree.specs.declared.token.Value.TheVariants as value;
@@ -13,9 +13,9 @@ use crate::ahead::{Inquiry, at_inquiry, at_inquiry_call};
 use crate::argument::next_argument;
 use crate::message::message_call;
 use crate::words::name;
-use c_grammar::ReadError;
 use c_grammar::ahead::next_is;
 use c_grammar::reading::{pick, place, skip};
+use c_grammar::{ReadError, Unread};
 use c_tree::tree::{Expr, MpiCall, Name};
 use c_tree::{Call, Class, Operator, Token};
 use sqlite_items::Boxed;
@@ -47,10 +47,12 @@ fn any_call(alloc: Global, tokens: &[Token], level: u8) -> Result<(MpiCall, &[To
         return init_call(alloc, tokens, level);
     }
     if next_is(tokens, Class::Mpi(Call::Finalize)) {
-        return finalize_call(tokens, level);
+        let (call, rest) = finalize_call(tokens, level)?;
+        return Ok((call, rest));
     }
     if next_is(tokens, Class::Mpi(Call::Barrier)) {
-        return barrier_call(tokens, level);
+        let (call, rest) = barrier_call(tokens, level)?;
+        return Ok((call, rest));
     }
     if at_inquiry_call(tokens) {
         return inquiry_call(alloc, tokens, level);
@@ -60,8 +62,8 @@ fn any_call(alloc: Global, tokens: &[Token], level: u8) -> Result<(MpiCall, &[To
 
 /// The word of a call and its opening parenthesis.
 #[tactic(auto, using(c_grammar::proofs::Steps::descent))]
-pub fn open(tokens: &[Token], call: Call, level: u8) -> Result<(u32, &[Token]), ReadError>
-    ensures reads { Gives (λ x. leaf (class.Mpi call) value.Nothing x.0 none) (λ x. x.1.now) level (placed (class.Mpi call) ⊳ word class.LeftParen) tokens.now result }
+pub fn open(tokens: &[Token], call: Call, level: u8) -> Result<(u32, &[Token]), Unread>
+    ensures reads { Finds (λ x. leaf (class.Mpi call) value.Nothing x.0 none) (λ x. x.1.now) level (placed (class.Mpi call) ⊳ word class.LeftParen) tokens.now result }
     ensures level { IfOk result (λ x. level ≤ limit) }
     ensures shorter { IfOk result (λ x. length x.1.now < length tokens.now) }
 {
@@ -118,9 +120,9 @@ fn address_of(alloc: Global, tokens: &[Token], level: u8) -> Result<(Name, &[Tok
 }
 
 /// `MPI_Finalize`.
-fn finalize_call(tokens: &[Token], level: u8) -> Result<(MpiCall, &[Token]), ReadError>
+fn finalize_call(tokens: &[Token], level: u8) -> Result<(MpiCall, &[Token]), Unread>
     requires { level ≤ limit + 1 }
-    ensures reads { Gives (λ x. call_tree x.0) (λ x. x.1.now) level (Ref grammar.FinalizeCall) tokens.now result }
+    ensures reads { Finds (λ x. call_tree x.0) (λ x. x.1.now) level (Ref grammar.FinalizeCall) tokens.now result }
     ensures shorter { IfOk result (λ x. length x.1.now < length tokens.now) }
 {
     let (at, rest) = open(tokens, Call::Finalize, level)?;
@@ -129,9 +131,9 @@ fn finalize_call(tokens: &[Token], level: u8) -> Result<(MpiCall, &[Token]), Rea
 }
 
 /// `MPI_Barrier`.
-fn barrier_call(tokens: &[Token], level: u8) -> Result<(MpiCall, &[Token]), ReadError>
+fn barrier_call(tokens: &[Token], level: u8) -> Result<(MpiCall, &[Token]), Unread>
     requires { level ≤ limit + 1 }
-    ensures reads { Gives (λ x. call_tree x.0) (λ x. x.1.now) level (Ref grammar.BarrierCall) tokens.now result }
+    ensures reads { Finds (λ x. call_tree x.0) (λ x. x.1.now) level (Ref grammar.BarrierCall) tokens.now result }
     ensures shorter { IfOk result (λ x. length x.1.now < length tokens.now) }
 {
     let (at, rest) = open(tokens, Call::Barrier, level)?;

@@ -118,7 +118,7 @@ fn allreduce_call(
 }
 
 /// What is sent, where the result goes, and how it is made.
-#[derive(Debug, Drop)]
+#[derive(Drop)]
 struct ReduceArguments {
     send: Boxed<Expr>,
     receive: Buffer,
@@ -207,7 +207,7 @@ fn allgather_call(
 }
 
 /// The buffer that is sent and the one that receives.
-#[derive(Debug, Drop)]
+#[derive(Drop)]
 struct Buffers {
     send: Buffer,
     receive: Buffer,

@@ -6,7 +6,7 @@ ghost use Rattle.c_grammar.specs.Grammar as grammar;
 ghost use Rattle.c_grammar.specs.Grammar.{Ref, Word, Kind, All, Many, Maybe, Deeper, ◌⊳◌, ◌∥◌};
 ghost use Rattle.c_grammar.specs.Meaning.{none, node, limit, ◌+++◌};
 ghost use Rattle.c_grammar.specs.Gives.{Gives};
-ghost use Rattle.c_grammar.specs.Trees.{shape, grade_of, at_grade, word, each, link_row, access_class, member_name_row, expression_tree, unary_tree};
+ghost use Rattle.c_grammar.specs.Trees.{shape, grade_of, at_grade, word, each, link_row, primary_row, suffix_row, suffix_tree, expression_tree, unary_tree};
 ghost use Rattle.c_descent.specs.More.{GivesMore, FirstOf};
 
 mod ahead;
@@ -18,7 +18,7 @@ use crate::words::{literal, member_name, name};
 use c_grammar::ReadError;
 use c_grammar::ahead::{at_operand, at_type, next_is};
 use c_grammar::reading::{place, skip};
-use c_tree::tree::{Access, Expr, Link, MemberName};
+use c_tree::tree::{Expr, Link, Primary, Suffix};
 use c_tree::{Class, Token};
 use sqlite_items::{Boxed, Items};
 use std::alloc::Global;
@@ -172,8 +172,8 @@ fn constant(
     ensures grade { IfOk result (λ x. grade_of x.0 ≡ 0) }
     ensures shorter { IfOk result (λ x. length x.1.now < length tokens.now) }
 {
-    let (base, rest) = literal(alloc, tokens, level)?;
-    suffixes(alloc, base, rest, level)
+    let (primary, rest) = literal(alloc, tokens, level)?;
+    postfix(alloc, primary, rest, level)
 }
 
 /// A variable or a call, with its suffixes.
@@ -186,12 +186,12 @@ fn named(alloc: Global, tokens: &[Token], level: u8) -> Result<(Boxed<Expr>, &[T
 {
     let (name, rest) = name(alloc, tokens, level)?;
     if !next_is(rest, Class::LeftParen) {
-        let base = nodes::variable(alloc, name)?;
-        return suffixes(alloc, base, rest, level);
+        let primary = nodes::variable(alloc, name)?;
+        return postfix(alloc, primary, rest, level);
     }
     let (arguments, rest) = arguments(alloc, rest, level)?;
-    let base = nodes::call(alloc, name, arguments)?;
-    suffixes(alloc, base, rest, level)
+    let primary = nodes::call(alloc, name, arguments)?;
+    postfix(alloc, primary, rest, level)
 }
 
 /// The arguments of a call (C99 6.5.2.2).
@@ -268,8 +268,8 @@ fn allocation(
 {
     let (at, rest) = place(tokens, Class::Malloc, level)?;
     let (size, rest) = inside(alloc, rest, level)?;
-    let base = nodes::allocation(alloc, at, size)?;
-    suffixes(alloc, base, rest, level)
+    let primary = nodes::allocation(alloc, at, size)?;
+    postfix(alloc, primary, rest, level)
 }
 
 /// An expression in parentheses that are no part of it.
@@ -361,8 +361,8 @@ fn group(
 {
     let (inner, rest) = expression(alloc, tokens, level + 1)?;
     let rest = skip(rest, Class::RightParen, level)?;
-    let base = nodes::group(alloc, at, inner)?;
-    suffixes(alloc, base, rest, level)
+    let primary = nodes::group(alloc, at, inner)?;
+    postfix(alloc, primary, rest, level)
 }
 
 /// A prefix operator with its operand (C99 6.5.3).
@@ -383,50 +383,61 @@ fn prefixed(
     Ok((prefixed, rest))
 }
 
-/// The operand with the suffixes that follow it (C99 6.5.2).
+/// The primary expression with the suffixes that follow it (C99 6.5.2).
 #[cycle(tower)]
-fn suffixes(
+fn postfix(
     alloc: Global,
-    base: Boxed<Expr>,
-    tokens: &[Token],
-    level: u8,
-) -> Result<(Boxed<Expr>, &[Token]), ReadError>
-    requires level { level ≤ limit + 1 }
-    requires grade { grade_of base ≡ 0 }
-    ensures reads { GivesMore (λ x. (shape x.0).row) (λ x. x.1.now) (shape base).row level grammar.suffixes tokens.now result }
-    ensures grade { IfOk result (λ x. grade_of x.0 ≡ 0) }
-    ensures shorter { IfOk result (λ x. length x.1.now ≤ length tokens.now) }
-{
-    let mut base = base;
-    let mut rest = tokens;
-    'suffixes: while at_suffix(rest) {
-        let (longer, after) = suffix(alloc, base, rest, level)?;
-        base = longer;
-        rest = after;
-    }
-    Ok((base, rest))
-}
-
-/// The operand with a suffix.
-#[cycle(tower)]
-fn suffix(
-    alloc: Global,
-    base: Boxed<Expr>,
+    primary: Boxed<Primary<Expr>>,
     tokens: &[Token],
     level: u8,
 ) -> Result<(Boxed<Expr>, &[Token]), ReadError>
     requires { level ≤ limit + 1 }
-    ensures reads { GivesMore (λ x. (shape x.0).row) (λ x. x.1.now) (shape base).row level (Ref grammar.Suffix) tokens.now result }
+    ensures reads { GivesMore (λ x. (shape x.0).row) (λ x. x.1.now) (primary_row shape primary) level grammar.suffixes tokens.now result }
     ensures grade { IfOk result (λ x. grade_of x.0 ≡ 0) }
+    ensures shorter { IfOk result (λ x. length x.1.now ≤ length tokens.now) }
+{
+    let (suffixes, rest) = suffixes(alloc, tokens, level)?;
+    let postfix = nodes::postfix(alloc, primary, suffixes)?;
+    Ok((postfix, rest))
+}
+
+/// What is selected from an operand, step by step.
+#[cycle(tower)]
+fn suffixes(
+    alloc: Global,
+    tokens: &[Token],
+    level: u8,
+) -> Result<(Items<Suffix<Expr>>, &[Token]), ReadError>
+    requires { level ≤ limit + 1 }
+    ensures reads { Gives (λ x. each (suffix_tree shape) x.0) (λ x. x.1.now) level grammar.suffixes tokens.now result }
+    ensures shorter { IfOk result (λ x. length x.1.now ≤ length tokens.now) }
+{
+    let mut suffixes = Items::new(alloc);
+    let mut rest = tokens;
+    'suffixes: while at_suffix(rest) {
+        let (suffix, after) = suffix(alloc, rest, level)?;
+        suffixes.push(suffix.into_inner())?;
+        rest = after;
+    }
+    Ok((suffixes, rest))
+}
+
+/// What is selected in one step.
+#[cycle(tower)]
+fn suffix(
+    alloc: Global,
+    tokens: &[Token],
+    level: u8,
+) -> Result<(Boxed<Suffix<Expr>>, &[Token]), ReadError>
+    requires { level ≤ limit + 1 }
+    ensures reads { Gives (λ x. suffix_tree shape x.0) (λ x. x.1.now) level (Ref grammar.Suffix) tokens.now result }
     ensures shorter { IfOk result (λ x. length x.1.now < length tokens.now) }
 {
     if next_is(tokens, Class::LeftBracket) {
-        let ((at, index), rest) = subscript(alloc, tokens, level)?;
-        let element = nodes::index(alloc, base, at, index)?;
+        let (element, rest) = subscript(alloc, tokens, level)?;
         return Ok((element, rest));
     }
-    let ((at, access, name), rest) = selection(alloc, tokens, level)?;
-    let member = nodes::member(alloc, base, at, access, name)?;
+    let (member, rest) = selection(alloc, tokens, level)?;
     Ok((member, rest))
 }
 
@@ -436,15 +447,16 @@ fn subscript(
     alloc: Global,
     tokens: &[Token],
     level: u8,
-) -> Result<((u32, Boxed<Expr>), &[Token]), ReadError>
+) -> Result<(Boxed<Suffix<Expr>>, &[Token]), ReadError>
     requires { level ≤ limit + 1 }
-    ensures reads { Gives (λ x. word class.LeftBracket x.0.0 (expression_tree x.0.1)) (λ x. x.1.now) level (grammar.placed class.LeftBracket ⊳ Deeper grammar.e ⊳ grammar.word class.RightBracket) tokens.now result }
+    ensures reads { Gives (λ x. suffix_row shape x.0) (λ x. x.1.now) level (grammar.placed class.LeftBracket ⊳ Deeper grammar.e ⊳ grammar.word class.RightBracket) tokens.now result }
     ensures shorter { IfOk result (λ x. length x.1.now < length tokens.now) }
 {
     let (at, rest) = place(tokens, Class::LeftBracket, level)?;
     let (index, rest) = expression(alloc, rest, level + 1)?;
     let rest = skip(rest, Class::RightBracket, level)?;
-    Ok(((at, index), rest))
+    let subscript = nodes::subscript(alloc, at, index)?;
+    Ok((subscript, rest))
 }
 
 /// What selects a member of a structure (C99 6.5.2.3).
@@ -453,11 +465,12 @@ fn selection(
     alloc: Global,
     tokens: &[Token],
     level: u8,
-) -> Result<((u32, Access, MemberName), &[Token]), ReadError>
-    ensures reads { Gives (λ x. word (access_class x.0.1) x.0.0 (member_name_row x.0.2)) (λ x. x.1.now) level (grammar.one_of (class.Dot ∷ class.Arrow ∷ []) ⊳ Word All grammar.member_names) tokens.now result }
+) -> Result<(Boxed<Suffix<Expr>>, &[Token]), ReadError>
+    ensures reads { Gives (λ x. suffix_row shape x.0) (λ x. x.1.now) level (grammar.one_of (class.Dot ∷ class.Arrow ∷ []) ⊳ Word All grammar.member_names) tokens.now result }
     ensures shorter { IfOk result (λ x. length x.1.now < length tokens.now) }
 {
     let ((at, access), rest) = access(tokens, level)?;
     let (name, rest) = member_name(alloc, rest, level)?;
-    Ok(((at, access, name), rest))
+    let selection = nodes::selection(alloc, at, access, name)?;
+    Ok((selection, rest))
 }

@@ -4,16 +4,16 @@ ghost use Rattle.std.specs.Prelude.{◌≤◌, ◌<◌, ◌+◌, ◌∷◌, [], 
 ghost use Rattle.c_grammar.specs.Grammar as grammar;
 ghost use Rattle.c_grammar.specs.Grammar.{Ref, Word, All, Deeper, Maybe, ◌⊳◌, word, shown, valued, listed, integers};
 ghost use Rattle.c_grammar.specs.Meaning.{limit};
-ghost use Rattle.c_grammar.specs.Gives.{Gives};
+ghost use Rattle.c_grammar.specs.Gives.{Finds, Gives};
 ghost use Rattle.c_grammar.specs.Trees.{parameters_tree, parameter_tree, name_row, number_row, bound_row, each, given};
 ghost use Rattle.c_tree.specs.declared.token.Class.TheVariants as class;
 
 use crate::ahead::at_integer;
 use crate::types::{stars, type_specifier};
 use crate::words::{name, number};
-use c_grammar::ReadError;
 use c_grammar::ahead::{at_type, next_is};
 use c_grammar::reading::{show, skip};
+use c_grammar::{ReadError, Unread};
 use c_tree::tree::{Bound, Name, Number, Parameter};
 use c_tree::{Class, Token};
 use sqlite_items::Items;
@@ -131,9 +131,9 @@ fn optional_name(
 
 /// The brackets of an array, where there are any.
 #[tactic(auto, using(c_grammar::proofs::Steps::descent))]
-fn optional_bound(tokens: &[Token], level: u8) -> Result<(Option<Bound>, &[Token]), ReadError>
+fn optional_bound(tokens: &[Token], level: u8) -> Result<(Option<Bound>, &[Token]), Unread>
     requires { level ≤ limit + 1 }
-    ensures reads { Gives (λ x. given bound_row x.0) (λ x. x.1.now) level (Maybe (shown class.LeftBracket ⊳ Deeper (Maybe (Word All integers)) ⊳ word class.RightBracket)) tokens.now result }
+    ensures reads { Finds (λ x. given bound_row x.0) (λ x. x.1.now) level (Maybe (shown class.LeftBracket ⊳ Deeper (Maybe (Word All integers)) ⊳ word class.RightBracket)) tokens.now result }
     ensures shorter { IfOk result (λ x. length x.1.now ≤ length tokens.now) }
 {
     if !next_is(tokens, Class::LeftBracket) {
@@ -145,9 +145,9 @@ fn optional_bound(tokens: &[Token], level: u8) -> Result<(Option<Bound>, &[Token
 
 /// The brackets of an array, whose size may be missing.
 #[tactic(auto, using(c_grammar::proofs::Steps::descent))]
-fn bound(tokens: &[Token], level: u8) -> Result<(Bound, &[Token]), ReadError>
+fn bound(tokens: &[Token], level: u8) -> Result<(Bound, &[Token]), Unread>
     requires { level ≤ limit + 1 }
-    ensures reads { Gives (λ x. bound_row x.0) (λ x. x.1.now) level (shown class.LeftBracket ⊳ Deeper (Maybe (Word All integers)) ⊳ word class.RightBracket) tokens.now result }
+    ensures reads { Finds (λ x. bound_row x.0) (λ x. x.1.now) level (shown class.LeftBracket ⊳ Deeper (Maybe (Word All integers)) ⊳ word class.RightBracket) tokens.now result }
     ensures shorter { IfOk result (λ x. length x.1.now < length tokens.now) }
 {
     let rest = show(tokens, Class::LeftBracket, level)?;
@@ -161,8 +161,8 @@ fn bound(tokens: &[Token], level: u8) -> Result<(Bound, &[Token]), ReadError>
 
 /// A number, where there is one.
 #[tactic(auto, using(c_grammar::proofs::Steps::descent))]
-fn optional_number(tokens: &[Token], level: u8) -> Result<(Option<Number>, &[Token]), ReadError>
-    ensures reads { Gives (λ x. given number_row x.0) (λ x. x.1.now) level (Maybe (Word All integers)) tokens.now result }
+fn optional_number(tokens: &[Token], level: u8) -> Result<(Option<Number>, &[Token]), Unread>
+    ensures reads { Finds (λ x. given number_row x.0) (λ x. x.1.now) level (Maybe (Word All integers)) tokens.now result }
     ensures shorter { IfOk result (λ x. length x.1.now ≤ length tokens.now) }
 {
     if !at_integer(tokens) {

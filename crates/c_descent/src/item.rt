@@ -4,7 +4,7 @@ ghost use Rattle.std.specs.Prelude.{◌≡◌, ◌≤◌, ◌<◌, ◌+◌, IfOk
 ghost use Rattle.c_grammar.specs.Grammar as grammar;
 ghost use Rattle.c_grammar.specs.Grammar.{Ref, ◌⊳◌, ◌∥◌, one_of, headers, placed, valued};
 ghost use Rattle.c_grammar.specs.Meaning.{limit, ◌+++◌};
-ghost use Rattle.c_grammar.specs.Gives.{Gives};
+ghost use Rattle.c_grammar.specs.Gives.{Finds, Gives};
 ghost use Rattle.c_grammar.specs.Trees.{parse_tree, item_tree, item_row, specifier_row};
 ghost use Rattle.c_descent.specs.Functions.{function_tree};
 ghost use Rattle.c_tree.specs.declared.token.Class.TheVariants as class;
@@ -15,16 +15,20 @@ use crate::statement::block;
 use crate::structs::struct_body;
 use crate::types::{plain_type, stars};
 use crate::words::name;
-use c_grammar::ReadError;
 use c_grammar::ahead::{at_header, at_item, next_is};
 use c_grammar::reading::{pick, place, skip};
-use c_tree::tree::{Heading, Item, Tree, TypeSpecifier};
+use c_grammar::{ReadError, Unread};
+use c_tree::tree::{Heading, Item, TypeSpecifier};
 use c_tree::{Class, Token};
 use sqlite_items::Items;
 use std::alloc::Global;
 
-/// A program.
-pub fn program(alloc: Global, tokens: &[Token], level: u8) -> Result<(Tree, &[Token]), ReadError>
+/// The items of a program.
+pub fn program(
+    alloc: Global,
+    tokens: &[Token],
+    level: u8,
+) -> Result<(Items<Item>, &[Token]), ReadError>
     requires { level ≤ limit + 1 }
     ensures reads { Gives (λ x. parse_tree x.0) (λ x. x.1.now) level (Ref grammar.Program) tokens.now result }
     ensures shorter { IfOk result (λ x. length x.1.now ≤ length tokens.now) }
@@ -36,7 +40,7 @@ pub fn program(alloc: Global, tokens: &[Token], level: u8) -> Result<(Tree, &[To
         items.push(next)?;
         rest = after;
     }
-    Ok((Tree { items }, rest))
+    Ok((items, rest))
 }
 
 /// An include, a struct that is defined, or a function.
@@ -60,8 +64,8 @@ fn item(alloc: Global, tokens: &[Token], level: u8) -> Result<(Item, &[Token]), 
 
 /// An include.
 #[tactic(auto, using(c_grammar::proofs::Steps::descent))]
-fn include(tokens: &[Token], level: u8) -> Result<(Item, &[Token]), ReadError>
-    ensures reads { Gives (λ x. item_row x.0) (λ x. x.1.now) level (one_of headers) tokens.now result }
+fn include(tokens: &[Token], level: u8) -> Result<(Item, &[Token]), Unread>
+    ensures reads { Finds (λ x. item_row x.0) (λ x. x.1.now) level (one_of headers) tokens.now result }
     ensures shorter { IfOk result (λ x. length x.1.now < length tokens.now) }
 {
     match pick(tokens, at_header(tokens), level) {

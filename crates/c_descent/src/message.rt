@@ -91,7 +91,7 @@ fn recv_call(alloc: Global, tokens: &[Token], level: u8) -> Result<(MpiCall, &[T
 }
 
 /// A buffer, the rank of the other process and a tag.
-#[derive(Debug, Drop)]
+#[derive(Drop)]
 struct Message {
     buffer: Buffer,
     process: Boxed<Expr>,

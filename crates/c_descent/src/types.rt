@@ -5,14 +5,14 @@ ghost use Rattle.c_tree.specs.declared.token.Class.TheVariants as class;
 ghost use Rattle.c_grammar.specs.Grammar as grammar;
 ghost use Rattle.c_grammar.specs.Grammar.{Ref, Word, Many, Maybe, ◌⊳◌};
 ghost use Rattle.c_grammar.specs.Meaning.{none, limit};
-ghost use Rattle.c_grammar.specs.Gives.{Gives};
+ghost use Rattle.c_grammar.specs.Gives.{Finds, Gives};
 ghost use Rattle.c_grammar.specs.Trees.{specifier_tree, specifier_row, type_name_row, star_row, number_row, each};
 
 use crate::ahead::at_simple_type;
 use crate::words::{name, number};
-use c_grammar::ReadError;
 use c_grammar::ahead::next_is;
 use c_grammar::reading::{pick, place, show, skip};
+use c_grammar::{ReadError, Unread};
 use c_tree::tree::{Number, PlainType, TypeName, TypeSpecifier};
 use c_tree::{Class, Operator, Token};
 use sqlite_items::Items;
@@ -40,9 +40,9 @@ pub fn type_specifier(
 
 /// A type other than a struct of the program.
 #[tactic(auto, using(c_grammar::proofs::Steps::descent))]
-pub fn plain_type(tokens: &[Token], level: u8) -> Result<(TypeSpecifier, &[Token]), ReadError>
+pub fn plain_type(tokens: &[Token], level: u8) -> Result<(TypeSpecifier, &[Token]), Unread>
     requires { level ≤ limit + 1 }
-    ensures reads { Gives (λ x. specifier_row x.0) (λ x. x.1.now) level grammar.plain_type tokens.now result }
+    ensures reads { Finds (λ x. specifier_row x.0) (λ x. x.1.now) level grammar.plain_type tokens.now result }
     ensures shorter { IfOk result (λ x. length x.1.now < length tokens.now) }
 {
     if next_is(tokens, Class::Long) {
@@ -56,8 +56,8 @@ pub fn plain_type(tokens: &[Token], level: u8) -> Result<(TypeSpecifier, &[Token
 
 /// Passes an `int` that stands there.
 #[tactic(auto, using(c_grammar::proofs::Steps::descent))]
-fn skip_int(tokens: &[Token], level: u8) -> Result<&[Token], ReadError>
-    ensures reads { Gives (λ x. none) (λ x. x.now) level (Maybe (grammar.word class.Int)) tokens.now result }
+fn skip_int(tokens: &[Token], level: u8) -> Result<&[Token], Unread>
+    ensures reads { Finds (λ x. none) (λ x. x.now) level (Maybe (grammar.word class.Int)) tokens.now result }
     ensures shorter { IfOk result (λ x. length x.now ≤ length tokens.now) }
 {
     if next_is(tokens, Class::Int) {
@@ -68,8 +68,8 @@ fn skip_int(tokens: &[Token], level: u8) -> Result<&[Token], ReadError>
 
 /// A type of one word other than `long`.
 #[tactic(auto, using(c_grammar::proofs::Steps::descent))]
-fn simple_type(tokens: &[Token], level: u8) -> Result<(TypeSpecifier, &[Token]), ReadError>
-    ensures reads { Gives (λ x. specifier_row x.0) (λ x. x.1.now) level (grammar.one_of grammar.simple_types) tokens.now result }
+fn simple_type(tokens: &[Token], level: u8) -> Result<(TypeSpecifier, &[Token]), Unread>
+    ensures reads { Finds (λ x. specifier_row x.0) (λ x. x.1.now) level (grammar.one_of grammar.simple_types) tokens.now result }
     ensures shorter { IfOk result (λ x. length x.1.now < length tokens.now) }
 {
     match pick(tokens, at_simple_type(tokens), level) {
@@ -95,9 +95,9 @@ pub fn type_name(
 }
 
 /// Stars: how many stand there.
-pub fn stars(tokens: &[Token], level: u8) -> Result<(usize, &[Token]), ReadError>
+pub fn stars(tokens: &[Token], level: u8) -> Result<(usize, &[Token]), Unread>
     requires { level ≤ limit + 1 }
-    ensures reads { Gives (λ x. star_row x.0) (λ x. x.1.now) level (grammar.stars) tokens.now result }
+    ensures reads { Finds (λ x. star_row x.0) (λ x. x.1.now) level (grammar.stars) tokens.now result }
     ensures shorter { IfOk result (λ x. length x.1.now ≤ length tokens.now) }
 {
     let mut count: usize = 0;
@@ -131,9 +131,9 @@ pub fn sizes(
 
 /// A size of an array in its brackets.
 #[tactic(auto, using(c_grammar::proofs::Steps::descent))]
-fn size(tokens: &[Token], level: u8) -> Result<(Number, &[Token]), ReadError>
+fn size(tokens: &[Token], level: u8) -> Result<(Number, &[Token]), Unread>
     requires { level ≤ limit + 1 }
-    ensures reads { Gives (λ x. number_row x.0) (λ x. x.1.now) level grammar.size tokens.now result }
+    ensures reads { Finds (λ x. number_row x.0) (λ x. x.1.now) level grammar.size tokens.now result }
     ensures shorter { IfOk result (λ x. length x.1.now < length tokens.now) }
 {
     let rest = skip(tokens, Class::LeftBracket, level)?;

@@ -7,13 +7,13 @@ ghost use Rattle.c_tree.specs.declared.token.Value.TheVariants as value;
 ghost use Rattle.c_grammar.specs.Grammar as grammar;
 ghost use Rattle.c_grammar.specs.Grammar.{Ref, Word, All, Many, ◌⊳◌};
 ghost use Rattle.c_grammar.specs.Meaning.{leaf, none, node, limit};
-ghost use Rattle.c_grammar.specs.Gives.{Gives};
-ghost use Rattle.c_grammar.specs.Trees.{name_row, number_row, member_name_row, shape, grade_of, operand, constant_class};
+ghost use Rattle.c_grammar.specs.Gives.{Finds, Gives};
+ghost use Rattle.c_grammar.specs.Trees.{name_row, number_row, member_name_row, primary_row, shape, constant_class};
 ghost use Rattle.c_grammar.specs.Readers.{integer_class, integer_value, literal_class, literal_value, member_class, member_value};
 
 use c_grammar::reading::skip;
-use c_grammar::{Integer, Literal, MemberName as FoundName, ReadError, reading};
-use c_tree::tree::{Constant, Expr, MemberName, Name, Number, Text};
+use c_grammar::{Integer, Literal, MemberName as FoundName, ReadError, Unread, reading};
+use c_tree::tree::{Constant, Expr, MemberName, Name, Number, Primary, Text};
 use c_tree::{Class, Token};
 use sqlite_items::Boxed;
 use std::alloc::Global;
@@ -25,9 +25,9 @@ pub fn followed_by<T: Drop>(
     tokens: &[Token],
     class: Class,
     level: u8,
-) -> Result<(T, &[Token]), ReadError>
+) -> Result<(T, &[Token]), Unread>
     ensures same { IfOk result (λ x. x.0 ≡ read) }
-    ensures reads { Gives (λ x. none) (λ x. x.1.now) level (grammar.word class) tokens.now result }
+    ensures reads { Finds (λ x. none) (λ x. x.1.now) level (grammar.word class) tokens.now result }
     ensures shorter { IfOk result (λ x. length x.1.now < length tokens.now) }
 {
     match skip(tokens, class, level) {
@@ -61,8 +61,8 @@ pub fn text(alloc: Global, tokens: &[Token], level: u8) -> Result<(Text, &[Token
 }
 
 /// A number.
-pub fn number(tokens: &[Token], level: u8) -> Result<(Number, &[Token]), ReadError>
-    ensures reads { Gives (λ x. number_row x.0) (λ x. x.1.now) level (Word All grammar.integers) tokens.now result }
+pub fn number(tokens: &[Token], level: u8) -> Result<(Number, &[Token]), Unread>
+    ensures reads { Finds (λ x. number_row x.0) (λ x. x.1.now) level (Word All grammar.integers) tokens.now result }
     ensures level { IfOk result (λ x. level ≤ limit) }
     ensures shorter { IfOk result (λ x. length x.1.now < length tokens.now) }
 {
@@ -77,19 +77,14 @@ pub fn literal(
     alloc: Global,
     tokens: &[Token],
     level: u8,
-) -> Result<(Boxed<Expr>, &[Token]), ReadError>
-    ensures reads { Gives (λ x. (shape x.0).row) (λ x. x.1.now) level (Word All grammar.literals) tokens.now result }
-    ensures grade { IfOk result (λ x. grade_of x.0 ≡ 0) }
+) -> Result<(Boxed<Primary<Expr>>, &[Token]), ReadError>
+    ensures reads { Gives (λ x. primary_row shape x.0) (λ x. x.1.now) level (Word All grammar.literals) tokens.now result }
     ensures level { IfOk result (λ x. level ≤ limit) }
     ensures shorter { IfOk result (λ x. length x.1.now < length tokens.now) }
 {
-    match reading::literal(tokens, level) {
-        Ok((at, literal, rest)) => {
-            let constant = Boxed::new(alloc, literal_at(at, literal))?;
-            Ok((constant, rest))
-        }
-        Err(error) => Err(error),
-    }
+    let (at, literal, rest) = reading::literal(tokens, level)?;
+    let constant = Boxed::new(alloc, literal_at(at, literal))?;
+    Ok((constant, rest))
 }
 
 /// The name of a member.
@@ -120,12 +115,12 @@ fn number_at(at: u32, integer: Integer) -> Number
 }
 
 /// The node of a constant.
-fn literal_at(at: u32, literal: Literal) -> Expr
-    ensures { shape result ≡ operand (leaf (literal_class literal) (literal_value literal) at none) }
+fn literal_at(at: u32, literal: Literal) -> Primary<Expr>
+    ensures { primary_row shape result ≡ leaf (literal_class literal) (literal_value literal) at none }
 {
     match literal {
-        Literal::Integer(integer) => Expr::Number(number_at(at, integer)),
-        Literal::Character(value) => Expr::Character { at, value },
+        Literal::Integer(integer) => Primary::Number(number_at(at, integer)),
+        Literal::Character(value) => Primary::Character { at, value },
         Literal::Null => constant_at(at, Constant::Null),
         Literal::AnySource => constant_at(at, Constant::AnySource),
         Literal::AnyTag => constant_at(at, Constant::AnyTag),
@@ -134,10 +129,10 @@ fn literal_at(at: u32, literal: Literal) -> Expr
 }
 
 /// The node of a constant that is a word.
-fn constant_at(at: u32, constant: Constant) -> Expr
-    ensures { shape result ≡ operand (leaf (constant_class constant) value.Nothing at none) }
+fn constant_at(at: u32, constant: Constant) -> Primary<Expr>
+    ensures { primary_row shape result ≡ leaf (constant_class constant) value.Nothing at none }
 {
-    Expr::Constant { at, constant }
+    Primary::Constant { at, constant }
 }
 
 /// The node of a member's name.

@@ -10,15 +10,20 @@ use Rattle.c_tree.specs.declared.tree.Expr.TheFolds.{map-Expr, fold_out-Expr}
 use Rattle.c_tree.specs.declared.tree.Expr.TheOpen.{Expr-F}
 use Rattle.c_tree.specs.declared.tree.Expr.TheViews.{out-Expr, roll-Expr, roll-out-Expr}
 use Rattle.c_tree.specs.declared.tree.Link.{Link}
+use Rattle.c_tree.specs.declared.tree.Primary.{Primary}
+use Rattle.c_tree.specs.declared.tree.Primary.TheVariants as primary
+use Rattle.c_tree.specs.declared.tree.Suffix.{Suffix}
+use Rattle.c_tree.specs.declared.tree.Suffix.TheVariants as suffix
 use Rattle.c_tree.specs.declared.tree.TypeName.{TypeName}
 use Rattle.c_grammar.specs.Readers.{grade}
-use Rattle.c_grammar.specs.Meaning.{Forest, none, ◌+++◌}
-use Rattle.c_grammar.specs.Trees.{Shape, shape, shape_step, at_grade, lifted, whole, each, link_row, chain_grade, access_class, type_name_row, expression_tree, unary_tree}
-use Rattle.c_grammar.proofs.Expressions.{All, AllOperands, OfParts, by_parts}
-use Rattle.c_grammar.proofs.Forms.{form, form_of, form_step}
-use Rattle.c_grammar.proofs.Peels.{Peels, NoStar, name_peels, number_peels, constant_one, access_one, member_name_peels, type_name_peels, at_grade_peels, ends_peel}
+use Rattle.c_grammar.specs.Grammar as part
+use Rattle.c_grammar.specs.Meaning.{Forest, none, node, ◌+++◌}
+use Rattle.c_grammar.specs.Trees.{Shape, shape, shape_step, primary_row, suffix_row, suffix_tree, at_grade, lifted, whole, each, link_row, chain_grade, access_class, type_name_row, expression_tree, unary_tree}
+use Rattle.c_grammar.proofs.Expressions.{All, AllOperands, OfPrimary, OfSuffix, AllSuffixes, OfParts, by_parts}
+use Rattle.c_grammar.proofs.Forms.{Start, Postfix, start_of, form, form_of, form_step}
+use Rattle.c_grammar.proofs.Peels.{Peels, NoStar, name_peels, number_peels, constant_one, access_one, member_name_peels, type_name_peels, at_grade_peels}
 use Rattle.c_grammar.proofs.Single.{strip, strip_at_grade}
-use Rattle.c_grammar.proofs.Views.{shape_roll, chain_step}
+use Rattle.c_grammar.proofs.Views.{shape_roll, chain_step, postfix_step}
 
 abbrev One : Expr → Type 0
 One c = (d : Expr) → (shape c).row ≡ (shape d).row → c ≡ d
@@ -44,12 +49,12 @@ lifted_no_star : (k g : ℕ) (row : Forest) → NoStar (lifted k g row)
 lifted_no_star zero g row f h = cc
 lifted_no_star (suc k) g row f h = cc
 
-all_one : (xs ys : List Expr) → All One xs → each whole (map shape xs) ≡ each whole (map shape ys) → xs ≡ ys
+all_one : (xs ys : List Expr) → All One xs → each expression_tree xs ≡ each expression_tree ys → xs ≡ ys
 all_one [] [] one h = refl
-all_one [] (y ∷ ys) one h = absurd (no_tree 11 (shape y) (each whole (map shape ys)) h)
-all_one (x ∷ xs) [] one h = absurd (no_tree 11 (shape x) (each whole (map shape xs)) (sym h))
+all_one [] (y ∷ ys) one h = absurd (no_tree 11 (shape y) (each expression_tree ys) h)
+all_one (x ∷ xs) [] one h = absurd (no_tree 11 (shape x) (each expression_tree xs) (sym h))
 all_one (x ∷ xs) (y ∷ ys) one h =
-    let first = at_grade_peels 11 11 (shape x) (shape y) (each whole (map shape xs)) (each whole (map shape ys)) h in
+    let first = at_grade_peels 11 11 (shape x) (shape y) (each expression_tree xs) (each expression_tree ys) h in
     let same = whole_child x y one.0 first.0 in
     let rest = all_one xs ys one.1 first.1 in
     λ i. same i ∷ rest i
@@ -78,10 +83,6 @@ chains_one f g xs ys one all h =
     let more = at_grade_peels (chain_grade xs) (chain_grade ys) (shape f) (shape g) (each (link_row shape (chain_grade xs)) xs) (each (link_row shape (chain_grade ys)) ys) h in
     (child (chain_grade xs) (chain_grade ys) f g (chain_small xs) (chain_small ys) one more.0, links_one (chain_grade xs) (chain_grade ys) (chain_small xs) (chain_small ys) xs ys all more.1)
 
-no_bracket : (a : Access) → class.LeftBracket ≡ access_class a → ⊥
-no_bracket access.Dot h = cc
-no_bracket access.Arrow h = cc
-
 types_one : (t u : TypeName) → type_name_row t ≡ type_name_row u → t ≡ u
 types_one t u h = (type_name_peels none none (λ f e. cc) (λ f e. cc) t u (ap (λ r. r +++ none) h)).0
 
@@ -94,43 +95,91 @@ choices_one a b c x y z one two three h =
     let second = at_grade_peels 11 11 (shape b) (shape y) (whole (shape c)) (whole (shape z)) first.1 in
     (child 10 10 a x (omega arith) (omega arith) one first.0, whole_child b y two second.0, whole_child c z three second.1)
 
+-- ---- postfix expressions
+
+abbrev NoArguments : Forest → Type 0
+NoArguments f = (kids g : Forest) → f ≡ node part.Arguments kids g → ⊥
+
+primaries_one : (p q : Primary Expr) (f g : Forest) → OfPrimary One p → start_of p ≡ start_of q → NoArguments f → NoArguments g → primary_row shape p +++ f ≡ primary_row shape q +++ g → (p ≡ q) × (f ≡ g)
+primaries_one (primary.Number n) (primary.Number m) f g one k a b h = let same = number_peels n m f g h in (ap primary.Number same.0, same.1)
+primaries_one (primary.Character at v) (primary.Character to w) f g one k a b h = (cc, cc)
+primaries_one (primary.Constant at c) (primary.Constant to d) f g one k a b h = let same = constant_one c d (cc) in (cc, cc)
+primaries_one (primary.Name n) (primary.Name m) f g one k a b h = let same = name_peels n m f g h in (ap primary.Name same.0, same.1)
+primaries_one (primary.Call n xs) (primary.Call m ys) f g one k a b h =
+    let first = name_peels n m (node part.Arguments (each expression_tree xs) f) (node part.Arguments (each expression_tree ys) g) h in
+    let rest = all_one xs ys one (cc) in
+    (λ i. primary.Call (first.0 i) (rest i), cc)
+primaries_one (primary.Name n) (primary.Call m ys) f g one k a b h = absurd (a _ _ (name_peels n m f (node part.Arguments (each expression_tree ys) g) h).1)
+primaries_one (primary.Call n xs) (primary.Name m) f g one k a b h = absurd (b _ _ (sym (name_peels n m (node part.Arguments (each expression_tree xs) f) g h).1))
+primaries_one (primary.Malloc at x) (primary.Malloc to y) f g one k a b h =
+    let more = at_grade_peels 11 11 (shape x) (shape y) f g (cc) in
+    let same = whole_child x y one more.0 in
+    (cc, more.1)
+primaries_one (primary.Group at x) (primary.Group to y) f g one k a b h =
+    let more = at_grade_peels 11 11 (shape x) (shape y) f g (cc) in
+    let same = whole_child x y one more.0 in
+    (cc, more.1)
+primaries_one p q f g one k a b h = absurd (cc)
+
+no_bracket : (a : Access) → class.LeftBracket ≡ access_class a → ⊥
+no_bracket access.Dot h = cc
+no_bracket access.Arrow h = cc
+
+suffix_one : (s t : Suffix Expr) → OfSuffix One s → suffix_row shape s ≡ suffix_row shape t → s ≡ t
+suffix_one (suffix.Index at x) (suffix.Index to y) one h = let same = whole_child x y one (cc) in cc
+suffix_one (suffix.Member at a n) (suffix.Member to d m) one h =
+    let way = access_one a d (cc) in
+    let name = member_name_peels n m none none (ap (λ r. r +++ none) (cc)) in
+    cc
+suffix_one (suffix.Index at x) (suffix.Member to d m) one h = absurd (no_bracket d (cc))
+suffix_one (suffix.Member at a n) (suffix.Index to y) one h = absurd (no_bracket a (cc))
+
+suffixes_one : (xs ys : List (Suffix Expr)) → AllSuffixes One xs → each (suffix_tree shape) xs ≡ each (suffix_tree shape) ys → xs ≡ ys
+suffixes_one [] [] one h = refl
+suffixes_one [] (y ∷ ys) one h = absurd (cc)
+suffixes_one (x ∷ xs) [] one h = absurd (cc)
+suffixes_one (x ∷ xs) (y ∷ ys) one h =
+    let same = suffix_one x y one.0 (cc) in
+    let rest = suffixes_one xs ys one.1 (cc) in
+    λ i. same i ∷ rest i
+
+no_arguments : (xs : List (Suffix Expr)) → NoArguments (each (suffix_tree shape) xs)
+no_arguments [] kids g h = cc
+no_arguments (x ∷ xs) kids g h = cc
+
+postfix_one : (p q : Primary Expr) (xs ys : List (Suffix Expr)) → OfPrimary One p → AllSuffixes One xs → start_of p ≡ start_of q → primary_row shape p +++ each (suffix_tree shape) xs ≡ primary_row shape q +++ each (suffix_tree shape) ys → (p ≡ q) × (xs ≡ ys)
+postfix_one p q xs ys one all k h =
+    let first = primaries_one p q (each (suffix_tree shape) xs) (each (suffix_tree shape) ys) one k (no_arguments xs) (no_arguments ys) h in
+    (first.0, suffixes_one xs ys all first.1)
+
+-- ---- one layer
+
+starts_one : (a b : Start) → Postfix a ≡ Postfix b → a ≡ b
+starts_one a b k = cc
+
+map_start : (p : Primary Expr) (xs : List (Suffix Expr)) → form_of (map-Expr Expr Shape shape (Expr-F.Postfix p xs)) ≡ Postfix (start_of p)
+map_start (primary.Number n) xs = refl
+map_start (primary.Character at v) xs = refl
+map_start (primary.Constant at c) xs = refl
+map_start (primary.Name n) xs = refl
+map_start (primary.Call n arguments) xs = refl
+map_start (primary.Malloc at size) xs = refl
+map_start (primary.Group at inner) xs = refl
+
 abbrev step_of : Expr-F Expr → Shape
 step_of x = shape_step (map-Expr Expr Shape shape x)
 
 one_layer : (x z : Expr-F Expr) → OfParts One x → form_of (map-Expr Expr Shape shape x) ≡ form_of (map-Expr Expr Shape shape z) → (step_of x).row ≡ (step_of z).row → x ≡ z
-one_layer (Expr-F.Number n) (Expr-F.Number m) one k h = ap Expr-F.Number (number_peels n m none none h).0
-one_layer (Expr-F.Character at v) (Expr-F.Character to w) one k h = cc
-one_layer (Expr-F.Constant at c) (Expr-F.Constant to d) one k h = let same = constant_one c d (cc) in cc
-one_layer (Expr-F.Name n) (Expr-F.Name m) one k h = ap Expr-F.Name (name_peels n m none none h).0
-one_layer (Expr-F.Call n xs) (Expr-F.Call m ys) one k h =
-    let first = name_peels n m _ _ h in
-    let rest = all_one xs ys one (cc) in
-    λ i. Expr-F.Call (first.0 i) (rest i)
-one_layer (Expr-F.Malloc at x) (Expr-F.Malloc to y) one k h = let same = whole_child x y one (cc) in cc
+one_layer (Expr-F.Postfix p xs) (Expr-F.Postfix q ys) one k h =
+    let starts = starts_one (start_of p) (start_of q) (sym (map_start p xs) ∙ k ∙ map_start q ys) in
+    let more = postfix_one p q xs ys one.0 one.1 starts (sym (ap (λ s. s.row) (postfix_step p xs)) ∙ h ∙ ap (λ s. s.row) (postfix_step q ys)) in
+    cc
 one_layer (Expr-F.SizeOf at t) (Expr-F.SizeOf to u) one k h = let same = types_one t u (cc) in cc
-one_layer (Expr-F.Group at x) (Expr-F.Group to y) one k h = let same = whole_child x y one (cc) in cc
 one_layer (Expr-F.Cast at t x) (Expr-F.Cast to u y) one k h =
     let more = casts_one t u x y (cc) in
     let same = unary_child x y one more.1 in
     cc
 one_layer (Expr-F.Prefix at o x) (Expr-F.Prefix to p y) one k h = let same = unary_child x y one (cc) in cc
-one_layer (Expr-F.Index b at i) (Expr-F.Index c to j) one k h =
-    let ends = ends_peel (shape b).row (shape c).row _ _ _ _ h in
-    let same = one.0 c ends.0 in
-    let index = whole_child i j one.1 (cc) in
-    cc
-one_layer (Expr-F.Member b at a n) (Expr-F.Member c to d m) one k h =
-    let ends = ends_peel (shape b).row (shape c).row _ _ _ _ h in
-    let same = one c ends.0 in
-    let way = access_one a d (cc) in
-    let name = member_name_peels n m none none (ap (λ r. r +++ none) (cc)) in
-    cc
-one_layer (Expr-F.Index b at i) (Expr-F.Member c to d m) one k h =
-    let ends = ends_peel (shape b).row (shape c).row _ _ _ _ h in
-    absurd (no_bracket d (cc))
-one_layer (Expr-F.Member b at a n) (Expr-F.Index c to j) one k h =
-    let ends = ends_peel (shape b).row (shape c).row _ _ _ _ h in
-    absurd (no_bracket a (cc))
 one_layer (Expr-F.Chain f xs) (Expr-F.Chain g ys) one k h =
     let more = chains_one f g xs ys one.0 one.1 (sym (ap (λ s. s.row) (chain_step f xs)) ∙ h ∙ ap (λ s. s.row) (chain_step g ys)) in
     cc

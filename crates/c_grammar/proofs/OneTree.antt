@@ -1,4 +1,4 @@
--- A program's parse tree fixes its tree.
+-- A program's parse tree fixes its items.
 use Rattle.std.proofs.Common.{◌≡◌, ap, ◌∙◌, sym, ℕ, List}
 use Rattle.c_tree.specs.declared.token.Class.TheVariants as class
 use Rattle.c_tree.specs.declared.token.Header.{Header}
@@ -90,6 +90,4 @@ item_peels : Peels item_tree
 item_peels x y f g h = (item_one x y (cc), cc)
 
 pub is_fixed : IsFixed
-is_fixed a b h =
-    let items = each_one item_tree item_peels (λ x f e. cc) a.items b.items (cc) in
-    λ i. record { items = items i }
+is_fixed a b h = each_one item_tree item_peels (λ x f e. cc) a b (cc)

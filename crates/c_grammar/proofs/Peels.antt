@@ -1,4 +1,4 @@
--- Rows, taken apart from the front and from the end.
+-- Rows, taken apart from the front.
 use Rattle.std.proofs.Common.{◌≡◌, refl, ap, ◌∙◌, sym, ℕ, zero, suc, ◌-◌, List, [], ◌∷◌, Bool, true, false, Option, Some, None}
 use Rattle.c_tree.specs.declared.token.Class.TheVariants as class
 use Rattle.c_tree.specs.declared.tree.Access.{Access}
@@ -124,20 +124,6 @@ lifted_peels (suc k) g row (suc l) h other f e same = (cc, cc)
 
 pub at_grade_peels : (v w : ℕ) (s t : Shape) (f e : Forest) → at_grade v s +++ f ≡ at_grade w t +++ e → (at_grade v s ≡ at_grade w t) × (f ≡ e)
 at_grade_peels v w s t f e = lifted_peels (v - s.grade) s.grade s.row (w - t.grade) t.grade t.row f e
-
--- a node behind a row
-no_end : (f : Forest) (p : _) (kids : Forest) → none ≡ f +++ node p kids none → ⊥
-no_end none p kids h = cc
-no_end (leaf c v q rest) p kids h = cc
-no_end (node q l rest) p kids h = cc
-
-pub ends_peel : (f g : Forest) (p q : _) (k l : Forest) → f +++ node p k none ≡ g +++ node q l none → (f ≡ g) × (k ≡ l)
-ends_peel none none p q k l h = (refl, cc)
-ends_peel none (node r m rest) p q k l h = absurd (no_end rest q l (cc))
-ends_peel (node r m rest) none p q k l h = absurd (no_end rest p k (cc))
-ends_peel (leaf c v r rest) (leaf d w s other) p q k l h = let more = ends_peel rest other p q k l (cc) in (cc, more.1)
-ends_peel (node c v rest) (node d w other) p q k l h = let more = ends_peel rest other p q k l (cc) in (cc, more.1)
-ends_peel f g p q k l h = absurd (cc)
 
 -- ---- one row, a list and an option at the end, and one node
 

@@ -7,26 +7,23 @@ use Rattle.c_tree.specs.declared.tree.Expr.{Expr}
 use Rattle.c_tree.specs.declared.tree.Expr.TheFolds.{map-Expr, fold_out-Expr}
 use Rattle.c_tree.specs.declared.tree.Expr.TheOpen.{Expr-F}
 use Rattle.c_tree.specs.declared.tree.Expr.TheViews.{out-Expr}
+use Rattle.c_tree.specs.declared.tree.Primary.{Primary}
+use Rattle.c_tree.specs.declared.tree.Primary.TheVariants as primary
 use Rattle.c_grammar.specs.Grammar as part
 use Rattle.c_grammar.specs.Grammar.{Part}
 use Rattle.c_grammar.specs.Meaning.{Forest, none, leaf, node, ◌+++◌}
-use Rattle.c_grammar.proofs.Grades.{part_fails}
-use Rattle.c_grammar.specs.Trees.{Shape, shape, shape_step, part_of, lifted, at_grade, chain_grade}
-
-abbrev pub is_suffix : Part → Bool
-is_suffix part.Suffix = true
-is_suffix _ = false
+use Rattle.c_grammar.specs.Trees.{Shape, shape, shape_step, primary_row, part_of, lifted, at_grade, chain_grade}
 
 -- the part of a chain without a link
 abbrev pub is_bare : Part → Bool
 is_bare (part.Binary g) = nat_eq g 11
 is_bare _ = false
 
--- one node, of an expression
+-- one node
 abbrev pub is_single : Forest → Bool
 is_single none = false
 is_single (leaf c v p rest) = false
-is_single (node p kids none) = not (is_suffix p)
+is_single (node p kids none) = true
 is_single (node p kids (leaf c v q rest)) = false
 is_single (node p kids (node q k rest)) = false
 
@@ -39,9 +36,6 @@ strip (node p kids rest) = elim (not (is_bare p) && is_single kids) as (λ _. Fo
 abbrev Own : Shape → Type 0
 Own s = (not (is_bare (part_of s.grade)) && is_single s.row) ≡ false
 
-pub part_of_no_suffix : (n : ℕ) → is_suffix (part_of n) ≡ false
-part_of_no_suffix = part_fails is_suffix refl refl (λ g. refl)
-
 not_bare : (n : ℕ) → n ≤ 11 → is_bare (part_of n) ≡ false
 not_bare zero small = refl
 not_bare (suc n) small = go (nat_eq n 10) (ne_eqb n 11 (λ e. absurd (omega arith)))
@@ -51,8 +45,8 @@ not_bare (suc n) small = go (nat_eq n 10) (ne_eqb n 11 (λ e. absurd (omega arit
     go false h = h
 
 single_lifted : (k g : ℕ) (row : Forest) → is_single (lifted k g row) ≡ true
-single_lifted zero g row = ap not (part_of_no_suffix g)
-single_lifted (suc k) g row = ap not (part_of_no_suffix (suc k + g))
+single_lifted zero g row = refl
+single_lifted (suc k) g row = refl
 
 abbrev choose : Forest → Bool → Forest
 choose kids b = elim b as (λ _. Forest) [ true ↦ strip kids | false ↦ kids ]
@@ -65,12 +59,14 @@ strip_lifted (suc k) s small own =
     ∙ strip_lifted k s (λ _. omega arith) own
 
 -- a row as it stands in its own node
-own_index : (row kids : Forest) → is_single (row +++ node part.Suffix kids none) ≡ false
-own_index none kids = refl
-own_index (leaf c v p rest) kids = refl
-own_index (node p k none) kids = refl
-own_index (node p k (leaf c v q rest)) kids = refl
-own_index (node p k (node q l rest)) kids = refl
+own_primary : (p : Primary Shape) (rest : Forest) → is_single (primary_row (λ s. s) p +++ rest) ≡ false
+own_primary (primary.Number n) rest = refl
+own_primary (primary.Character at v) rest = refl
+own_primary (primary.Constant at c) rest = refl
+own_primary (primary.Name n) rest = refl
+own_primary (primary.Call n arguments) rest = refl
+own_primary (primary.Malloc at size) rest = refl
+own_primary (primary.Group at inner) rest = refl
 
 own_link : (k g : ℕ) (row rest : Forest) (c : Class) (v : Value) (at : ℕ) → is_single (lifted k g row +++ leaf c v at rest) ≡ false
 own_link zero g row rest c v at = refl
@@ -87,18 +83,10 @@ and_false true = refl
 and_false false = refl
 
 own_step : (x : Expr-F Shape) → Own (shape_step x)
-own_step (Expr-F.Number n) = refl
-own_step (Expr-F.Character at v) = refl
-own_step (Expr-F.Constant at c) = refl
-own_step (Expr-F.Name n) = refl
-own_step (Expr-F.Call n arguments) = refl
-own_step (Expr-F.Malloc at size) = refl
+own_step (Expr-F.Postfix p suffixes) = own_primary p _
 own_step (Expr-F.SizeOf at t) = refl
-own_step (Expr-F.Group at inner) = refl
 own_step (Expr-F.Cast at t x) = refl
 own_step (Expr-F.Prefix at o x) = refl
-own_step (Expr-F.Index base at index) = own_index base.row _
-own_step (Expr-F.Member base at a n) = own_index base.row _
 own_step (Expr-F.Chain first []) = refl
 own_step (Expr-F.Chain first (l ∷ rest)) =
     ap (λ b. not (is_bare (part_of (suc (chain_grade (l ∷ rest))))) && b) (own_link (chain_grade (l ∷ rest) - first.grade) first.grade first.row _ _ _ _) ∙ and_false _

@@ -2,12 +2,14 @@
 use Rattle.std.proofs.Common.{◌≡◌, ◌∙◌, Result, Bool, ℕ, ◌+◌, true, false, List, refl, sym, ap, subst, arith}
 use Rattle.c_tree.specs.declared.token.Token.{Token}
 use Rattle.c_grammar.specs.declared.fault.ReadError.{ReadError}
-use Rattle.c_grammar.specs.declared.fault.ReadError.TheVariants.{Memory, Syntax, TooDeep, TooLarge}
+use Rattle.c_grammar.specs.declared.fault.ReadError.TheVariants as error
+use Rattle.c_grammar.specs.declared.fault.Unread.{Unread}
+use Rattle.c_grammar.specs.declared.fault.Unread.TheVariants.{Syntax, TooDeep, TooLarge}
 use Rattle.c_tree.specs.declared.token.Class.{Class}
 use Rattle.c_grammar.specs.Grammar.{Part, Keep, Rule, Word, Ref, Then, Either, Many, Maybe, Deeper, rule}
 use Rattle.c_grammar.specs.Meaning.{Forest, none, leaf, node, ◌+++◌, starts, next_in}
 use Rattle.c_grammar.specs.Meaning as meaning
-use Rattle.c_grammar.specs.Gives.{Fails, Gives}
+use Rattle.c_grammar.specs.Gives.{Stops, Fails, Gives, Finds}
 use Rattle.std.specs.Result.{IsErrAnd}
 use Rattle.std.proofs.lemmas.Result.{err_from_is_err_and}
 use Rattle.c_grammar.specs.Descent.{Reads, Read, Fault, Kind, Bad, Unfit, Outcome, ref_read, ref_fault, then_read, then_first, then_second, left, right, stop, go, no, yes, deeper}
@@ -16,11 +18,14 @@ use Rattle.c_grammar.specs.Descent.{Reads, Read, Fault, Kind, Bad, Unfit, Outcom
 abbrev pub Passes : ℕ → Rule → List Token → ℕ → Rule → List Token → Type 0
 Passes l r ts m q us = (k : Kind) (zs : List Token) → Reads m q us (Fault k zs) → Reads l r ts (Fault k zs)
 
+pub stops_from : {l m : ℕ} {r q : Rule} {ts us : List Token} (e : Unread) → Passes l r ts m q us → Stops m q us e → Stops l r ts e
+stops_from (Syntax n) p h = (h.0, h.1, p Bad h.0 h.2)
+stops_from (TooDeep n) p h = (h.0, h.1, p (Unfit meaning.TooDeep) h.0 h.2)
+stops_from (TooLarge n) p h = (h.0, h.1, p (Unfit meaning.TooLarge) h.0 h.2)
+
 pub fails_from : {l m : ℕ} {r q : Rule} {ts us : List Token} (e : ReadError) → Passes l r ts m q us → Fails m q us e → Fails l r ts e
-fails_from Memory p h = tt
-fails_from (Syntax n) p h = (h.0, h.1, p Bad h.0 h.2)
-fails_from (TooDeep n) p h = (h.0, h.1, p (Unfit meaning.TooDeep) h.0 h.2)
-fails_from (TooLarge n) p h = (h.0, h.1, p (Unfit meaning.TooLarge) h.0 h.2)
+fails_from error.Memory p h = tt
+fails_from (error.Unread e) p h = stops_from e p h
 
 pub r_then : {l : ℕ} {a b : Rule} {ts us zs : List Token} {f g : Forest} (h : Forest) → Reads l a ts (Read f us) → Reads l b us (Read g zs) → h ≡ f +++ g → Reads l (Then a b) ts (Read h zs)
 r_then {l} {a} {b} {ts} {us} {zs} {f} {g} h x y e = subst (λ (w : Forest). Reads l (Then a b) ts (Read w zs)) (sym e) (then_read l a b ts us zs f g x y)
@@ -101,6 +106,16 @@ passed_on {X} view after l r ts e o h f =
     let p = err_from_is_err_and o h in
     subst (λ (w : Result X ReadError). Gives view after l r ts w) (sym p.1) (subst (λ (w : ReadError). Fails l r ts w) (sym p.2) f)
 
+-- the same of a fault
+pub stop_passed_on : {X : Type 0} (view : X → Forest) (after : X → List Token) (l : ℕ) (r : Rule) (ts : List Token) (e : Unread) (o : Result X ReadError) → IsErrAnd o (λ y. y ≡ error.Unread e) → Stops l r ts e → Gives view after l r ts o
+stop_passed_on view after l r ts e = passed_on view after l r ts (error.Unread e)
+
+-- the same in a function that needs no memory
+pub stop_found : {X : Type 0} (view : X → Forest) (after : X → List Token) (l : ℕ) (r : Rule) (ts : List Token) (e : Unread) (o : Result X Unread) → IsErrAnd o (λ y. y ≡ e) → Stops l r ts e → Finds view after l r ts o
+stop_found {X} view after l r ts e o h f =
+    let p = err_from_is_err_and o h in
+    subst (λ (w : Result X Unread). Finds view after l r ts w) (sym p.1) (subst (λ (w : Unread). Stops l r ts w) (sym p.2) f)
+
 -- the same steps, from the tests that a function makes
 pub when_left : {l : ℕ} {a b : Rule} {ts : List Token} {o : Outcome} (t : Bool) → t ≡ starts a ts → t ≡ true → Reads l a ts o → Reads l (Either a b) ts o
 when_left {l} {a} {b} {ts} {o} t e h x = left l a b ts o (sym e ∙ h) x
@@ -127,7 +142,7 @@ pub no_word : {l : ℕ} {k : Keep} {cs : List Class} {a : Rule} {ts : List Token
 no_word {l} {k} {cs} {a} {ts} t e h = no l (Then (Word k cs) a) ts (sym e ∙ h)
 
 -- all that a function's steps need
-pub ruleset descent = (passed_on, fails_from, f_ref, f_first, f_second, r_ref, r_seq, when_left, when_right, r_deeper, when_yes, when_no, left_word, right_word, yes_word, no_word)
+pub ruleset descent = (passed_on, fails_from, stop_passed_on, stop_found, stops_from, f_ref, f_first, f_second, r_ref, r_seq, when_left, when_right, r_deeper, when_yes, when_no, left_word, right_word, yes_word, no_word)
 
 -- a step that keeps nothing, before and after others
 pub r_skip : {l : ℕ} {a b : Rule} {ts us zs : List Token} {g : Forest} → Reads l a ts (Read none us) → Reads l b us (Read g zs) → Reads l (Then a b) ts (Read g zs)

@@ -11,7 +11,7 @@ use Rattle.c_grammar.specs.Descent.{Reads, Read, Fault, Unfit}
 use Rattle.c_grammar.specs.Meaning.{Forest, Spelled, tokens, Within, Reason, TooDeep, TooLarge, refused}
 use Rattle.c_grammar.specs.Program.{IsProgram, HasTree, BeginsProgram, NoFurther, UnfitHere}
 use Rattle.c_grammar.specs.Text as parsed
-use Rattle.c_grammar.specs.Text.{text_limit, place_of, Parsed, Whole, Refused, Parses, IsParsedOnce}
+use Rattle.c_grammar.specs.Text.{text_limit, place_of, names_any, Parsed, Whole, Refused, Parses, IsParsedOnce}
 use Rattle.c_grammar.specs.Trees.{parse_tree}
 use Rattle.c_grammar.proofs.Exact.{same, complete, Verdict, Sunk, tokens_append, within_back, not_unfit}
 use Rattle.c_grammar.proofs.Local.{local, append_none}
@@ -182,8 +182,18 @@ abbrev kind_of : Reason → Kind
 kind_of TooDeep = kind.TooDeep
 kind_of TooLarge = kind.NumberRange
 
+-- what a tree tells of its text beside the items
+abbrev Facts : List ℕ → Tree → Type 0
+Facts text tree = (tree.length ≡ length text) × (tree.any_source ≡ names_any (tokens_of text))
+
+tree_same : (text : List ℕ) (t u : Tree) → t.items ≡ u.items → Facts text t → Facts text u → t ≡ u
+tree_same text t u e a b =
+    let long : t.length ≡ u.length = a.0 ∙ sym b.0 in
+    let any : t.any_source ≡ u.any_source = a.1 ∙ sym b.1 in
+    λ i. record { items = e i; length = long i; any_source = any i }
+
 data Case (text : List ℕ) (p : Parsed) : Type 0 where
-  has_tree : (tree : Tree) → length text ≤ text_limit → HasTree (tokens_of text) (parse_tree tree) → p ≡ Whole tree → Case text p
+  has_tree : (tree : Tree) → length text ≤ text_limit → HasTree (tokens_of text) (parse_tree tree.items) → Facts text tree → p ≡ Whole tree → Case text p
   too_long : text_limit < length text → p ≡ Refused kind.TextLimit text_limit → Case text p
   wrong : (front rest : List Token) → length text ≤ text_limit → tokens_of text ≡ front ++ rest → BeginsProgram front → NoFurther front rest → p ≡ Refused kind.Syntax (place_of text rest) → Case text p
   unfit : (why : Reason) (front rest : List Token) → length text ≤ text_limit → tokens_of text ≡ front ++ rest → UnfitHere why front rest → p ≡ Refused (kind_of why) (place_of text rest) → Case text p
@@ -192,7 +202,9 @@ case_unfit : (text : List ℕ) (why : Reason) (at : ℕ) (h : parsed.HasFault te
 case_unfit text why at h u = unfit why h.front h.rest h.short (scanned_tokens text h.tokens h.read ∙ h.all) u (ap (Refused (kind_of why)) h.place)
 
 case_of : (text : List ℕ) (p : Parsed) → Parses text p → Case text p
-case_of text (Whole tree) h = has_tree tree h.short (subst (λ (w : List Token). HasTree w (parse_tree tree)) (sym (scanned_tokens text h.tokens h.read)) h.spelled) refl
+case_of text (Whole tree) h =
+    let tokens = sym (scanned_tokens text h.tokens h.read) in
+    has_tree tree h.short (subst (λ (w : List Token). HasTree w (parse_tree tree.items)) tokens h.spelled) (h.length_is, h.any_source_is ∙ ap names_any tokens) refl
 case_of text (Refused kind.TextLimit at) h = too_long h.0 (ap (Refused kind.TextLimit) h.1)
 case_of text (Refused kind.Syntax at) h = wrong h.front h.rest h.short (scanned_tokens text h.tokens h.read ∙ h.all) h.wrong.0 h.wrong.1 (ap (Refused kind.Syntax) h.place)
 case_of text (Refused kind.TooDeep at) h = case_unfit text TooDeep at h h.wrong
@@ -200,19 +212,19 @@ case_of text (Refused kind.NumberRange at) h = case_unfit text TooLarge at h h.w
 case_of text (Refused _ at) h = absurd h.wrong
 
 one_case : (text : List ℕ) (p q : Parsed) → Case text p → Case text q → p ≡ q
-one_case text p q (has_tree t s h e) (has_tree u r k g) = e ∙ (ap Whole (is_fixed t u (tree_tree _ _ _ h k)) ∙ sym g)
-one_case text p q (has_tree t s h e) (too_long r g) = absurd (omega arith)
-one_case text p q (has_tree t s h e) (wrong b y r j k n g) = absurd (tree_wrong _ _ b y h j n)
-one_case text p q (has_tree t s h e) (unfit w b y r j u g) = absurd (tree_unfit _ w _ b y h j u)
-one_case text p q (too_long s e) (has_tree u r k g) = absurd (omega arith)
+one_case text p q (has_tree t s h a e) (has_tree u r k b g) = e ∙ (ap Whole (tree_same text t u (is_fixed t.items u.items (tree_tree _ _ _ h k)) a b) ∙ sym g)
+one_case text p q (has_tree t s h a e) (too_long r g) = absurd (omega arith)
+one_case text p q (has_tree t s h d e) (wrong b y r j k n g) = absurd (tree_wrong _ _ b y h j n)
+one_case text p q (has_tree t s h a e) (unfit w b y r j u g) = absurd (tree_unfit _ w _ b y h j u)
+one_case text p q (too_long s e) (has_tree u r k b g) = absurd (omega arith)
 one_case text p q (too_long s e) (too_long r g) = e ∙ sym g
 one_case text p q (too_long s e) (wrong b y r j k n g) = absurd (omega arith)
 one_case text p q (too_long s e) (unfit w b y r j u g) = absurd (omega arith)
-one_case text p q (wrong a x s i h m e) (has_tree u r k g) = absurd (tree_wrong _ _ a x k i m)
+one_case text p q (wrong a x s i h m e) (has_tree u r k d g) = absurd (tree_wrong _ _ a x k i m)
 one_case text p q (wrong a x s i h m e) (too_long r g) = absurd (omega arith)
 one_case text p q (wrong a x s i h m e) (wrong b y r j k n g) = e ∙ (ap (λ (w : List Token). Refused kind.Syntax (place_of text w)) (wrong_wrong a x b y (sym i ∙ j) h m k n) ∙ sym g)
 one_case text p q (wrong a x s i h m e) (unfit w b y r j u g) = absurd (wrong_unfit w b y a x (sym j ∙ i) u h m)
-one_case text p q (unfit v a x s i h e) (has_tree u r k g) = absurd (tree_unfit _ v _ a x k i h)
+one_case text p q (unfit v a x s i h e) (has_tree u r k b g) = absurd (tree_unfit _ v _ a x k i h)
 one_case text p q (unfit v a x s i h e) (too_long r g) = absurd (omega arith)
 one_case text p q (unfit v a x s i h e) (wrong b y r j k n g) = absurd (wrong_unfit v a x b y (sym i ∙ j) h k n)
 one_case text p q (unfit v a x s i h e) (unfit w b y r j u g) =

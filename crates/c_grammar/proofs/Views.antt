@@ -8,7 +8,6 @@ use Rattle.c_tree.specs.declared.tree.Arm.{Arm}
 use Rattle.c_tree.specs.declared.tree.Block.{Block}
 use Rattle.c_tree.specs.declared.tree.BlockItem.{BlockItem}
 use Rattle.c_tree.specs.declared.tree.BlockItem.TheVariants as block_item
-use Rattle.c_tree.specs.declared.tree.Constant.{Constant}
 use Rattle.c_tree.specs.declared.tree.Declaration.{Declaration}
 use Rattle.c_tree.specs.declared.tree.Expr.{Expr}
 use Rattle.c_tree.specs.declared.tree.Expr.TheFolds.{fold-roll-Expr, map-Expr}
@@ -20,20 +19,22 @@ use Rattle.c_tree.specs.declared.tree.Link.{Link}
 use Rattle.c_tree.specs.declared.tree.Mark.{Mark}
 use Rattle.c_tree.specs.declared.tree.MemberName.{MemberName}
 use Rattle.c_tree.specs.declared.tree.MpiCall.{MpiCall}
-use Rattle.c_tree.specs.declared.tree.Name.{Name}
-use Rattle.c_tree.specs.declared.tree.Number.{Number}
+use Rattle.c_tree.specs.declared.tree.Primary.{Primary}
+use Rattle.c_tree.specs.declared.tree.Primary.TheVariants as primary
 use Rattle.c_tree.specs.declared.tree.SimpleStatement.{SimpleStatement}
 use Rattle.c_tree.specs.declared.tree.Stmt.{Stmt}
 use Rattle.c_tree.specs.declared.tree.Stmt.TheFolds.{fold-roll-Stmt, map-Stmt}
 use Rattle.c_tree.specs.declared.tree.Stmt.TheOpen.{Stmt-F}
 use Rattle.c_tree.specs.declared.tree.Stmt.TheVariants as stmt
 use Rattle.c_tree.specs.declared.tree.Stmt.TheViews.{roll-Stmt}
+use Rattle.c_tree.specs.declared.tree.Suffix.{Suffix}
+use Rattle.c_tree.specs.declared.tree.Suffix.TheVariants as suffix
 use Rattle.c_tree.specs.declared.tree.Text.{Text}
 use Rattle.c_tree.specs.declared.tree.TypeName.{TypeName}
 use Rattle.c_grammar.specs.Readers.{grade}
 use Rattle.c_grammar.specs.Grammar as part
 use Rattle.c_grammar.specs.Meaning.{Forest, none, leaf, node, ◌+++◌}
-use Rattle.c_grammar.specs.Trees.{Shape, shape, shape_step, operand, word, each, given, at_grade, name_row, number_row, type_name_row, member_name_row, constant_class, access_class, expression_tree, unary_tree, chain, chain_grade, link_row, statement_row, statement_step, statement_tree, plain, plain_node, block_tree, block_item_tree, if_row, else_tree, for_row, mark_row, call_tree, simple_tree}
+use Rattle.c_grammar.specs.Trees.{Shape, shape, shape_step, primary_row, suffix_tree, operand, word, whole, each, given, at_grade, name_row, type_name_row, expression_tree, unary_tree, chain, chain_grade, link_row, statement_row, statement_step, statement_tree, plain, plain_node, block_tree, block_item_tree, if_row, else_tree, for_row, mark_row, call_tree, simple_tree}
 use Rattle.c_grammar.proofs.Steps.{cong2}
 
 -- a row of things that were mapped
@@ -58,41 +59,37 @@ chain_map h same first rest =
 pub chain_step : (first : Expr) (rest : List (Link Expr)) → shape_step (map-Expr Expr Shape shape (Expr-F.Chain first rest)) ≡ chain shape (chain_grade rest) first rest
 chain_step first rest = chain_map _ (λ l. refl) first rest
 
-pub shape_number : (n : Number) → shape (expr.Number n) ≡ operand (number_row n)
-shape_number n = ap shape (sym (expr.rolls-Number n)) ∙ shape_roll (Expr-F.Number n)
+suffixes_map : (h : Suffix Expr → Suffix Shape) → ((at : ℕ) (x : Expr) → h (suffix.Index at x) ≡ suffix.Index at (shape x)) → ((at : ℕ) (a : Access) (n : MemberName) → h (suffix.Member at a n) ≡ suffix.Member at a n) → (xs : List (Suffix Expr)) → each (suffix_tree (λ s. s)) (map h xs) ≡ each (suffix_tree shape) xs
+suffixes_map h i m xs = each_map (suffix_tree (λ s. s)) _ h (λ s. elim s as (λ s. suffix_tree (λ s. s) (h s) ≡ suffix_tree shape s) [ suffix.Index at x ↦ ap (suffix_tree (λ s. s)) (i at x) | suffix.Member at a n ↦ ap (suffix_tree (λ s. s)) (m at a n) ]) xs
 
-pub shape_character : (at v : ℕ) → shape (expr.Character at v) ≡ operand (leaf class.Character (value.Number v) at none)
-shape_character at v = ap shape (sym (expr.rolls-Character at v)) ∙ shape_roll (Expr-F.Character at v)
+abbrev postfix : Forest → List (Suffix Expr) → Shape
+postfix row suffixes = operand (row +++ each (suffix_tree shape) suffixes)
 
-pub shape_constant : (at : ℕ) (c : Constant) → shape (expr.Constant at c) ≡ operand (word (constant_class c) at none)
-shape_constant at c = ap shape (sym (expr.rolls-Constant at c)) ∙ shape_roll (Expr-F.Constant at c)
+behind : (row : Forest) (h : Suffix Expr → Suffix Shape) → ((at : ℕ) (x : Expr) → h (suffix.Index at x) ≡ suffix.Index at (shape x)) → ((at : ℕ) (a : Access) (n : MemberName) → h (suffix.Member at a n) ≡ suffix.Member at a n) → (xs : List (Suffix Expr)) → operand (row +++ each (suffix_tree (λ s. s)) (map h xs)) ≡ postfix row xs
+behind row h i m xs = ap (λ rest. operand (row +++ rest)) (suffixes_map h i m xs)
 
-pub shape_name : (n : Name) → shape (expr.Name n) ≡ operand (name_row n)
-shape_name n = ap shape (sym (expr.rolls-Name n)) ∙ shape_roll (Expr-F.Name n)
+pub postfix_step : (p : Primary Expr) (suffixes : List (Suffix Expr)) → shape_step (map-Expr Expr Shape shape (Expr-F.Postfix p suffixes)) ≡ postfix (primary_row shape p) suffixes
+postfix_step (primary.Number n) suffixes = behind (primary_row shape (primary.Number n)) _ (λ at x. refl) (λ at a n. refl) suffixes
+postfix_step (primary.Character at v) suffixes = behind (primary_row shape (primary.Character at v)) _ (λ at x. refl) (λ at a n. refl) suffixes
+postfix_step (primary.Constant at c) suffixes = behind (primary_row shape (primary.Constant at c)) _ (λ at x. refl) (λ at a n. refl) suffixes
+postfix_step (primary.Name n) suffixes = behind (primary_row shape (primary.Name n)) _ (λ at x. refl) (λ at a n. refl) suffixes
+postfix_step (primary.Call n arguments) suffixes =
+    behind (primary_row (λ s. s) (primary.Call n (map shape arguments))) _ (λ at x. refl) (λ at a n. refl) suffixes
+    ∙ ap (λ row. postfix (name_row n +++ node part.Arguments row none) suffixes) (each_map whole expression_tree shape (λ x. refl) arguments)
+postfix_step (primary.Malloc at size) suffixes = behind (primary_row shape (primary.Malloc at size)) _ (λ at x. refl) (λ at a n. refl) suffixes
+postfix_step (primary.Group at inner) suffixes = behind (primary_row shape (primary.Group at inner)) _ (λ at x. refl) (λ at a n. refl) suffixes
 
-pub shape_call : (n : Name) (xs : List Expr) → shape (expr.Call n xs) ≡ operand (name_row n +++ node part.Arguments (each expression_tree xs) none)
-shape_call n xs = ap shape (sym (expr.rolls-Call n xs)) ∙ shape_roll (Expr-F.Call n xs) ∙ ap (λ row. operand (name_row n +++ node part.Arguments row none)) (each_map _ _ _ (λ x. refl) xs)
-
-pub shape_malloc : (at : ℕ) (size : Expr) → shape (expr.Malloc at size) ≡ operand (word class.Malloc at (expression_tree size))
-shape_malloc at size = ap shape (sym (expr.rolls-Malloc at size)) ∙ shape_roll (Expr-F.Malloc at size)
+pub shape_postfix : (p : Primary Expr) (suffixes : List (Suffix Expr)) → shape (expr.Postfix p suffixes) ≡ operand (primary_row shape p +++ each (suffix_tree shape) suffixes)
+shape_postfix p suffixes = ap shape (sym (expr.rolls-Postfix p suffixes)) ∙ shape_roll (Expr-F.Postfix p suffixes) ∙ postfix_step p suffixes
 
 pub shape_size_of : (at : ℕ) (t : TypeName) → shape (expr.SizeOf at t) ≡ operand (word class.SizeOf at (type_name_row t))
 shape_size_of at t = ap shape (sym (expr.rolls-SizeOf at t)) ∙ shape_roll (Expr-F.SizeOf at t)
-
-pub shape_group : (at : ℕ) (inner : Expr) → shape (expr.Group at inner) ≡ operand (word class.LeftParen at (expression_tree inner))
-shape_group at inner = ap shape (sym (expr.rolls-Group at inner)) ∙ shape_roll (Expr-F.Group at inner)
 
 pub shape_cast : (at : ℕ) (t : TypeName) (x : Expr) → shape (expr.Cast at t x) ≡ operand (word class.LeftParen at (type_name_row t +++ unary_tree x))
 shape_cast at t x = ap shape (sym (expr.rolls-Cast at t x)) ∙ shape_roll (Expr-F.Cast at t x)
 
 pub shape_prefix : (at : ℕ) (o : Operator) (x : Expr) → shape (expr.Prefix at o x) ≡ operand (word (class.Sign o) at (unary_tree x))
 shape_prefix at o x = ap shape (sym (expr.rolls-Prefix at o x)) ∙ shape_roll (Expr-F.Prefix at o x)
-
-pub shape_index : (base : Expr) (at : ℕ) (index : Expr) → shape (expr.Index base at index) ≡ operand ((shape base).row +++ node part.Suffix (word class.LeftBracket at (expression_tree index)) none)
-shape_index base at index = ap shape (sym (expr.rolls-Index base at index)) ∙ shape_roll (Expr-F.Index base at index)
-
-pub shape_member : (base : Expr) (at : ℕ) (a : Access) (n : MemberName) → shape (expr.Member base at a n) ≡ operand ((shape base).row +++ node part.Suffix (word (access_class a) at (member_name_row n)) none)
-shape_member base at a n = ap shape (sym (expr.rolls-Member base at a n)) ∙ shape_roll (Expr-F.Member base at a n)
 
 pub shape_chain : (first : Expr) (rest : List (Link Expr)) → shape (expr.Chain first rest) ≡ chain shape (chain_grade rest) first rest
 shape_chain first rest = ap shape (sym (expr.rolls-Chain first rest)) ∙ shape_roll (Expr-F.Chain first rest) ∙ chain_step first rest
@@ -162,4 +159,4 @@ pub row_simple : (s : SimpleStatement) → statement_row (stmt.Simple s) ≡ pla
 row_simple s = ap statement_row (sym (stmt.rolls-Simple s)) ∙ row_roll (Stmt-F.Simple s)
 
 -- the shapes and rows of nodes
-pub ruleset views = (shape_number, shape_character, shape_constant, shape_name, shape_call, shape_malloc, shape_size_of, shape_group, shape_cast, shape_prefix, shape_index, shape_member, shape_chain, shape_choice, row_empty, row_break, row_continue, row_block, row_if, row_while, row_do_while, row_for, row_return, row_print, row_free, row_mark, row_mpi, row_simple)
+pub ruleset views = (shape_postfix, shape_size_of, shape_cast, shape_prefix, shape_chain, shape_choice, row_empty, row_break, row_continue, row_block, row_if, row_while, row_do_while, row_for, row_return, row_print, row_free, row_mark, row_mpi, row_simple)

@@ -1,7 +1,10 @@
 -- The tree of a text, or its first fault.
-use Rattle.std.specs.Prelude.{ℕ, ◌≡◌, ◌<◌, ◌≤◌, List, [], ◌∷◌, ◌++◌, length}
+use Rattle.std.specs.Prelude.{ℕ, ◌≡◌, ◌<◌, ◌≤◌, Bool, true, false, List, [], ◌∷◌, ◌++◌, length}
+use Rattle.std.specs.List.{list_any}
 use Rattle.c_tree.specs.declared.kind.Kind.{Kind}
 use Rattle.c_tree.specs.declared.kind.Kind.TheVariants as kind
+use Rattle.c_tree.specs.declared.token.Class.{Class}
+use Rattle.c_tree.specs.declared.token.Class.TheVariants as class
 use Rattle.c_tree.specs.declared.token.Token.{Token}
 use Rattle.c_tree.specs.declared.tree.Tree.{Tree}
 use Rattle.c_tree.specs.Tokens.{Tokens}
@@ -19,12 +22,22 @@ abbrev pub place_of : List ℕ → List Token → ℕ
 place_of text [] = length text
 place_of text (t ∷ ts) = t.place
 
+-- the word MPI_ANY_SOURCE
+abbrev pub is_any_source : Class → Bool
+is_any_source class.AnySource = true
+is_any_source _ = false
+
+abbrev pub names_any : List Token → Bool
+names_any ts = list_any (λ t. is_any_source t.class) ts
+
 -- The text has the tree.
 pub record HasTree (text : List ℕ) (tree : Tree) : Type 0 where
   pub short : length text ≤ text_limit
   pub tokens : List Token
   pub read : Tokens text tokens
-  pub spelled : program.HasTree tokens (parse_tree tree)
+  pub spelled : program.HasTree tokens (parse_tree tree.items)
+  pub length_is : tree.length ≡ length text
+  pub any_source_is : tree.any_source ≡ names_any tokens
 
 -- after these tokens, which begin a program, the next is at fault
 abbrev pub IsWrong : Kind → List Token → List Token → Type 0

@@ -7,7 +7,6 @@ use Rattle.c_tree.specs.declared.token.Call.TheVariants as call
 use Rattle.c_tree.specs.declared.token.Operator.{Operator}
 use Rattle.c_tree.specs.declared.token.Operator.TheVariants as operator
 use Rattle.c_tree.specs.declared.token.Value.TheVariants as value
-use Rattle.c_tree.specs.declared.tree.Tree.{Tree}
 use Rattle.c_tree.specs.declared.tree.Item.{Item}
 use Rattle.c_tree.specs.declared.tree.Item.TheVariants as item
 use Rattle.c_tree.specs.declared.tree.Name.{Name}
@@ -35,6 +34,10 @@ use Rattle.c_tree.specs.declared.tree.Constant.TheVariants as constant
 use Rattle.c_tree.specs.declared.tree.Access.{Access}
 use Rattle.c_tree.specs.declared.tree.Access.TheVariants as access
 use Rattle.c_tree.specs.declared.tree.Link.{Link}
+use Rattle.c_tree.specs.declared.tree.Primary.{Primary}
+use Rattle.c_tree.specs.declared.tree.Primary.TheVariants as primary
+use Rattle.c_tree.specs.declared.tree.Suffix.{Suffix}
+use Rattle.c_tree.specs.declared.tree.Suffix.TheVariants as suffix
 use Rattle.c_tree.specs.declared.tree.Block.{Block}
 use Rattle.c_tree.specs.declared.tree.BlockItem.{BlockItem}
 use Rattle.c_tree.specs.declared.tree.BlockItem.TheVariants as block_item
@@ -185,6 +188,24 @@ chain_grade (link ∷ links) = grade link.operator
 abbrev pub link_row : {E : Type 0} → (E → Shape) → ℕ → Link E → Forest
 link_row look g link = shown (class.Sign link.operator) (at_grade g (look link.operand))
 
+-- a primary expression, by the shapes of its parts
+abbrev pub primary_row : {E : Type 0} → (E → Shape) → Primary E → Forest
+primary_row look (primary.Number n) = number_row n
+primary_row look (primary.Character at v) = leaf class.Character (value.Number v) at none
+primary_row look (primary.Constant at c) = word (constant_class c) at none
+primary_row look (primary.Name n) = name_row n
+primary_row look (primary.Call n arguments) = name_row n +++ node part.Arguments (each (λ e. whole (look e)) arguments) none
+primary_row look (primary.Malloc at size) = word class.Malloc at (whole (look size))
+primary_row look (primary.Group at inner) = word class.LeftParen at (whole (look inner))
+
+-- what is selected from an operand, by the shapes of its parts
+abbrev pub suffix_row : {E : Type 0} → (E → Shape) → Suffix E → Forest
+suffix_row look (suffix.Index at index) = word class.LeftBracket at (whole (look index))
+suffix_row look (suffix.Member at a name) = word (access_class a) at (member_name_row name)
+
+abbrev pub suffix_tree : {E : Type 0} → (E → Shape) → Suffix E → Forest
+suffix_tree look s = node part.Suffix (suffix_row look s) none
+
 -- what is an operand by itself
 abbrev pub operand : Forest → Shape
 operand row = record { grade = 0; row = row }
@@ -195,18 +216,10 @@ chain look g first rest = record { grade = suc g; row = at_grade g (look first) 
 
 -- an expression, by the shapes of its parts
 abbrev pub shape_step : Expr-F Shape → Shape
-shape_step (Expr-F.Number n) = operand (number_row n)
-shape_step (Expr-F.Character at v) = operand (leaf class.Character (value.Number v) at none)
-shape_step (Expr-F.Constant at c) = operand (word (constant_class c) at none)
-shape_step (Expr-F.Name n) = operand (name_row n)
-shape_step (Expr-F.Call n arguments) = operand (name_row n +++ node part.Arguments (each whole arguments) none)
-shape_step (Expr-F.Malloc at size) = operand (word class.Malloc at (whole size))
+shape_step (Expr-F.Postfix p suffixes) = operand (primary_row (λ s. s) p +++ each (suffix_tree (λ s. s)) suffixes)
 shape_step (Expr-F.SizeOf at t) = operand (word class.SizeOf at (type_name_row t))
-shape_step (Expr-F.Group at inner) = operand (word class.LeftParen at (whole inner))
 shape_step (Expr-F.Cast at t x) = operand (word class.LeftParen at (type_name_row t +++ at_grade 0 x))
 shape_step (Expr-F.Prefix at o x) = operand (word (class.Sign o) at (at_grade 0 x))
-shape_step (Expr-F.Index base at index) = operand (base.row +++ node part.Suffix (word class.LeftBracket at (whole index)) none)
-shape_step (Expr-F.Member base at a name) = operand (base.row +++ node part.Suffix (word (access_class a) at (member_name_row name)) none)
 shape_step (Expr-F.Chain first rest) = chain (λ s. s) (chain_grade rest) first rest
 shape_step (Expr-F.Choice test then otherwise) = record { grade = 11; row = at_grade 10 test +++ whole then +++ whole otherwise }
 
@@ -401,10 +414,10 @@ item_row (item.Function h body) = specifier_row h.specifier +++ node part.Functi
 abbrev pub item_tree : Item → Forest
 item_tree i = node part.Item (item_row i) none
 
--- the parse tree of a program
-abbrev pub parse_tree : Tree → Forest
-parse_tree t = node part.Program (each item_tree t.items) none
+-- the parse tree of a program's items
+abbrev pub parse_tree : List Item → Forest
+parse_tree items = node part.Program (each item_tree items) none
 
--- a parse tree fixes the tree
+-- a parse tree fixes the items
 abbrev pub IsFixed : Type 0
-IsFixed = (a b : Tree) → parse_tree a ≡ parse_tree b → a ≡ b
+IsFixed = (a b : List Item) → parse_tree a ≡ parse_tree b → a ≡ b

@@ -1,15 +1,13 @@
 //! Why tokens were not read.
 
 ghost use Rattle.std.specs.Prelude.{◌≡◌};
-ghost use Rattle.c_grammar.specs.declared.fault.ReadError.TheVariants.{Memory};
+ghost use Rattle.c_grammar.specs.declared.fault.ReadError.TheVariants as error;
 
 use std::alloc::{AllocError, AllocFailed};
 
 /// Why a rule was not read. A fault's place is the number of tokens from it to the end.
-#[derive(Debug, Drop)]
-pub enum ReadError {
-    /// The memory that the answer needs is not there.
-    Memory,
+#[derive(Clone, Copy)]
+pub enum Unread {
     /// The token, or the end, fits nowhere.
     Syntax(usize),
     /// The token stands at level 65.
@@ -18,8 +16,25 @@ pub enum ReadError {
     TooLarge(usize),
 }
 
+/// Why a reader that needs memory gives nothing.
+#[derive(Drop)]
+pub enum ReadError {
+    /// The memory that the answer needs is not there.
+    Memory,
+    /// The rule was not read.
+    Unread(Unread),
+}
+
+impl From<Unread> for ReadError {
+    ghost from_gives = { λ unread e. e ≡ error.Unread unread };
+
+    fn from(unread: Unread) -> ReadError {
+        ReadError::Unread(unread)
+    }
+}
+
 impl From<AllocError> for ReadError {
-    ghost from_gives = { λ _ e. e ≡ Memory };
+    ghost from_gives = { λ _ e. e ≡ error.Memory };
 
     fn from(_error: AllocError) -> ReadError {
         ReadError::Memory
@@ -27,7 +42,7 @@ impl From<AllocError> for ReadError {
 }
 
 impl<T: Drop> From<AllocFailed<T>> for ReadError {
-    ghost from_gives = { λ _ e. e ≡ Memory };
+    ghost from_gives = { λ _ e. e ≡ error.Memory };
 
     fn from(_error: AllocFailed<T>) -> ReadError {
         ReadError::Memory

@@ -5,9 +5,7 @@ pub mod ahead;
 mod fault;
 pub mod law;
 pub mod reading;
-#[cfg(test)]
-mod tests;
 mod values;
 
-pub use fault::ReadError;
+pub use fault::{ReadError, Unread};
 pub use values::{Integer, Literal, MemberName};

@@ -28,7 +28,7 @@ pub enum Literal {
 }
 
 /// The name of a member: one of the program, `MPI_SOURCE` or `MPI_TAG`.
-#[derive(Debug, Drop)]
+#[derive(Drop)]
 pub enum MemberName {
     Name(Items<u8>),
     Source,

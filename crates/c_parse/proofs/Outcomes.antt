@@ -1,5 +1,5 @@
 -- From the outcome of a descent to what is answered of the text.
-use Rattle.std.proofs.Common.{◌≡◌, ◌≤◌, ◌<◌, ◌-◌, ℕ, Option, Some, None, List, ◌++◌, IfSome, length, drop, refl, sym, ap, arith, ◌∙◌, length-append}
+use Rattle.std.proofs.Common.{◌≡◌, ◌≤◌, ◌<◌, ◌-◌, ℕ, Option, Some, None, List, ◌++◌, IfSome, IsSomeAnd, length, drop, refl, sym, ap, arith, ◌∙◌, length-append}
 use Rattle.std.proofs.Math.Seq.{drop-append_seam}
 use Rattle.c_tree.specs.declared.kind.Kind.TheVariants as kind
 use Rattle.c_tree.specs.declared.token.Token.{Token}
@@ -9,7 +9,7 @@ use Rattle.c_tree.proofs.Whole.{tokens_scanned}
 use Rattle.c_grammar.specs.Descent.{Reads, Read, Fault, Kind, Bad, Unfit}
 use Rattle.c_grammar.specs.Meaning.{Forest, TooDeep, TooLarge}
 use Rattle.c_grammar.specs.Program.{SyntaxAt}
-use Rattle.c_grammar.specs.Text.{HasTree, HasFault, text_limit, place_of, Parsed, Parses}
+use Rattle.c_grammar.specs.Text.{HasTree, HasFault, text_limit, place_of, names_any, Parsed, Parses}
 use Rattle.c_grammar.specs.Trees.{parse_tree}
 use Rattle.c_grammar.proofs.Local.{local}
 use Rattle.c_grammar.proofs.Text.{is_parsed_once}
@@ -58,10 +58,15 @@ trailing text ts f zs at l e h some p =
     let x = local 0 start ts (Read f zs) h in
     wrong_at text ts (length zs) (length zs) at (l, e, p ∙ sym (ap (place_of text) (last_of ts x.front zs (length zs) x.all refl))) (rest_is ts f zs some h) refl
 
-pub tree : (text : List ℕ) (ts : List Token) (t : Tree) (zs : List Token) → length text ≤ text_limit → ts ≡ tokens_of text → Reads 0 start ts (Read (parse_tree t) zs) → length zs ≡ 0 → HasTree text t
-tree text ts t zs l e h none = record { short = l; tokens = ts; read = tokens_scanned text ts (sym e); spelled = tree_is ts (parse_tree t) zs none h }
+pub tree : (text : List ℕ) (ts : List Token) (t : Tree) (zs : List Token) → length text ≤ text_limit → ts ≡ tokens_of text → Reads 0 start ts (Read (parse_tree t.items) zs) → length zs ≡ 0 → t.length ≡ length text → t.any_source ≡ names_any ts → HasTree text t
+tree text ts t zs l e h none long any = record { short = l; tokens = ts; read = tokens_scanned text ts (sym e); spelled = tree_is ts (parse_tree t.items) zs none h; length_is = long; any_source_is = any }
 
 -- what is right is all that is
 pub only : (text : List ℕ) (o : Option Parsed) → IfSome o (Parses text) → (p : Parsed) → Parses text p → IfSome o (λ q. q ≡ p)
 only text None h p k = tt
 only text (Some q) h p k = is_parsed_once text q p h k
+
+-- what is said
+pub told : (o : Option Parsed) (P : Parsed → Type 0) → IsSomeAnd o P → IfSome o P
+told None P h = tt
+told (Some p) P h = h

@@ -1,18 +1,15 @@
 //! Why a text has no tree.
 
-#[cfg(test)]
-mod tests;
-
-ghost use Rattle.std.specs.Prelude.{◌≡◌, ◌≤◌, ◌-◌, Result, Err, IfSome, drop, length};
+ghost use Rattle.std.specs.Prelude.{◌≡◌, ◌≤◌, ◌-◌, Result, Err, IfSome, IsSomeAnd, drop, length};
 ghost use Rattle.c_tree.specs.Scan.{tokens_of};
-ghost use Rattle.c_grammar.specs.Gives.{Fails};
+ghost use Rattle.c_grammar.specs.Gives.{Fails, Stops};
 ghost use Rattle.c_grammar.specs.Grammar.{Program, Ref};
 ghost use Rattle.c_grammar.specs.Text as texts;
 ghost use Rattle.c_grammar.specs.Text.{Parses, text_limit};
 ghost use Rattle.c_parse.specs.Parse.{said};
 ghost use Rattle.c_parse.specs.declared.fault.ParseFault.TheVariants.{NoMemory};
 
-use c_grammar::ReadError;
+use c_grammar::{ReadError, Unread};
 use c_tree::Token;
 use thiserror::Error;
 
@@ -48,13 +45,25 @@ pub fn fault_of(text: &[u8], tokens: &[Token], error: ReadError) -> ParseFault
 {
     match error {
         ReadError::Memory => ParseFault::NoMemory,
-        ReadError::Syntax(left) => ParseFault::Syntax {
+        ReadError::Unread(unread) => first_fault(text, tokens, unread),
+    }
+}
+
+/// The fault at which the tokens were read no further as a program.
+fn first_fault(text: &[u8], tokens: &[Token], unread: Unread) -> ParseFault
+    requires short { length text.now ≤ text_limit }
+    requires scanned { tokens.now ≡ tokens_of text.now }
+    requires stops { Stops 0 (Ref Program) tokens.now unread }
+    ensures { IsSomeAnd (said (Err result)) (Parses text.now) }
+{
+    match unread {
+        Unread::Syntax(left) => ParseFault::Syntax {
             at: place_at(text, tokens, left),
         },
-        ReadError::TooDeep(left) => ParseFault::TooDeep {
+        Unread::TooDeep(left) => ParseFault::TooDeep {
             at: place_at(text, tokens, left),
         },
-        ReadError::TooLarge(left) => ParseFault::NumberRange {
+        Unread::TooLarge(left) => ParseFault::NumberRange {
             at: place_at(text, tokens, left),
         },
     }

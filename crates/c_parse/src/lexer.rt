@@ -13,7 +13,6 @@ mod word;
 
 ghost use Rattle.std.specs.Prelude.{◌≡◌, ◌<◌, ◌≤◌, ◌^◌, length, IfOk};
 ghost use Rattle.c_tree.specs.Scan as scan;
-ghost use Rattle.c_tree.specs.Tokens.{Tokens};
 ghost use Rattle.c_parse.specs.Lexer.{maybe_shown, reach, shown};
 
 use byte::is_blank;
@@ -65,14 +64,6 @@ fn is_fresh_after(is_fresh: bool, byte: u8) -> bool
 }
 
 /// The tokens of a text (C99 6.4), the last of class Broken at the first lexical fault.
-pub fn tokens(alloc: Global, text: &[u8]) -> Result<Items<Token>, NoMemory>
-    requires { length text.now < 2 ^ 32 }
-    ensures { IfOk result (Tokens text.now) }
-{
-    scanned(alloc, text)
-}
-
-/// The same, as the scan of the text.
 pub fn scanned(alloc: Global, text: &[u8]) -> Result<Items<Token>, NoMemory>
     requires { length text.now < 2 ^ 32 }
     ensures { IfOk result (λ list. list ≡ scan.tokens_of text.now) }
@@ -111,6 +102,3 @@ pub fn scanned(alloc: Global, text: &[u8]) -> Result<Items<Token>, NoMemory>
     }
     Ok(tokens)
 }
-
-#[cfg(test)]
-mod tests;

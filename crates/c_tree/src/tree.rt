@@ -6,13 +6,17 @@ use crate::token::{Datatype, Header, Operator, Reduction};
 use sqlite_items::{Boxed, Items};
 
 /// A program (C99 6.9).
-#[derive(Debug, Drop)]
+#[derive(Drop)]
 pub struct Tree {
     pub items: Items<Item>,
+    /// The text's length, in bytes.
+    pub length: u32,
+    /// Whether the text has the word `MPI_ANY_SOURCE`.
+    pub any_source: bool,
 }
 
 /// What stands at the outermost level of a program.
-#[derive(Debug, Drop)]
+#[derive(Drop)]
 pub enum Item {
     Include {
         at: u32,
@@ -31,14 +35,14 @@ pub enum Item {
 }
 
 /// A name of the program (C99 6.4.2).
-#[derive(Debug, Drop)]
+#[derive(Drop)]
 pub struct Name {
     pub at: u32,
     pub bytes: Items<u8>,
 }
 
 /// A decimal constant (C99 6.4.4.1).
-#[derive(Debug, Drop)]
+#[derive(Drop)]
 pub struct Number {
     pub at: u32,
     pub value: u64,
@@ -47,14 +51,14 @@ pub struct Number {
 }
 
 /// A string literal (C99 6.4.5), with the bytes that it stands for.
-#[derive(Debug, Drop)]
+#[derive(Drop)]
 pub struct Text {
     pub at: u32,
     pub bytes: Items<u8>,
 }
 
 /// A type specifier (C99 6.7.2).
-#[derive(Debug, Drop)]
+#[derive(Drop)]
 pub enum TypeSpecifier {
     Plain { at: u32, plain: PlainType },
     Struct { at: u32, name: Name },
@@ -73,14 +77,14 @@ pub enum PlainType {
 }
 
 /// A type name (C99 6.7.6): a type specifier with so many stars after it.
-#[derive(Debug, Drop)]
+#[derive(Drop)]
 pub struct TypeName {
     pub specifier: TypeSpecifier,
     pub stars: usize,
 }
 
 /// What stands before a function's body or the semicolon of its prototype.
-#[derive(Debug, Drop)]
+#[derive(Drop)]
 pub struct Heading {
     pub specifier: TypeSpecifier,
     pub stars: usize,
@@ -89,7 +93,7 @@ pub struct Heading {
 }
 
 /// A parameter. `void` alone between the parentheses is one with no name.
-#[derive(Debug, Drop)]
+#[derive(Drop)]
 pub struct Parameter {
     pub specifier: TypeSpecifier,
     pub stars: usize,
@@ -98,21 +102,21 @@ pub struct Parameter {
 }
 
 /// The brackets of an array parameter.
-#[derive(Debug, Drop)]
+#[derive(Drop)]
 pub enum Bound {
     Open,
     Size(Number),
 }
 
 /// Members of one type specifier (C99 6.7.2.1).
-#[derive(Debug, Drop)]
+#[derive(Drop)]
 pub struct MemberDeclaration {
     pub specifier: TypeSpecifier,
     pub declarators: Items<MemberDeclarator>,
 }
 
 /// A member.
-#[derive(Debug, Drop)]
+#[derive(Drop)]
 pub struct MemberDeclarator {
     pub stars: usize,
     pub name: MemberName,
@@ -120,7 +124,7 @@ pub struct MemberDeclarator {
 }
 
 /// A member's name.
-#[derive(Debug, Drop)]
+#[derive(Drop)]
 pub enum MemberName {
     Name(Name),
     /// `MPI_SOURCE`.
@@ -130,14 +134,14 @@ pub enum MemberName {
 }
 
 /// Variables of one type specifier (C99 6.7).
-#[derive(Debug, Drop)]
+#[derive(Drop)]
 pub struct Declaration {
     pub specifier: TypeSpecifier,
     pub declarators: Items<InitDeclarator>,
 }
 
 /// A variable.
-#[derive(Debug, Drop)]
+#[derive(Drop)]
 pub struct InitDeclarator {
     pub stars: usize,
     pub name: Name,
@@ -146,34 +150,16 @@ pub struct InitDeclarator {
 }
 
 /// An expression (C99 6.5).
-#[derive(Debug, Drop)]
+#[derive(Drop)]
 pub enum Expr {
-    Number(Number),
-    Character {
-        at: u32,
-        value: u64,
-    },
-    Constant {
-        at: u32,
-        constant: Constant,
-    },
-    Name(Name),
-    Call {
-        name: Name,
-        arguments: Items<Expr>,
-    },
-    Malloc {
-        at: u32,
-        size: Boxed<Expr>,
+    /// A primary expression, and what is selected from it, step by step (C99 6.5.2).
+    Postfix {
+        primary: Primary<Expr>,
+        suffixes: Items<Suffix<Expr>>,
     },
     SizeOf {
         at: u32,
         name: TypeName,
-    },
-    /// An expression in parentheses.
-    Group {
-        at: u32,
-        inner: Boxed<Expr>,
     },
     Cast {
         at: u32,
@@ -185,17 +171,6 @@ pub enum Expr {
         operator: Operator,
         operand: Boxed<Expr>,
     },
-    Index {
-        base: Boxed<Expr>,
-        at: u32,
-        index: Boxed<Expr>,
-    },
-    Member {
-        base: Boxed<Expr>,
-        at: u32,
-        access: Access,
-        name: MemberName,
-    },
     /// Operators of one grade with their operands, grouped from the left. There is at least one link.
     Chain {
         first: Boxed<Expr>,
@@ -206,6 +181,35 @@ pub enum Expr {
         test: Boxed<Expr>,
         then: Boxed<Expr>,
         otherwise: Boxed<Expr>,
+    },
+}
+
+/// A primary expression (C99 6.5.1), or a call.
+#[derive(Drop)]
+pub enum Primary<E> {
+    Number(Number),
+    Character { at: u32, value: u64 },
+    Constant { at: u32, constant: Constant },
+    Name(Name),
+    Call { name: Name, arguments: Items<E> },
+    Malloc { at: u32, size: Boxed<E> },
+    /// An expression in parentheses.
+    Group { at: u32, inner: Boxed<E> },
+}
+
+/// What is selected from an operand.
+#[derive(Drop)]
+pub enum Suffix<E> {
+    /// `[index]` (C99 6.5.2.1).
+    Index {
+        at: u32,
+        index: E,
+    },
+    /// `.name` or `->name` (C99 6.5.2.3).
+    Member {
+        at: u32,
+        access: Access,
+        name: MemberName,
     },
 }
 
@@ -226,28 +230,28 @@ pub enum Access {
 }
 
 /// An operator with its right operand.
-#[derive(Debug, Drop)]
+#[derive(Drop)]
 pub struct Link<E> {
     pub operator: Operator,
     pub operand: E,
 }
 
 /// A compound statement (C99 6.8.2).
-#[derive(Debug, Drop)]
+#[derive(Drop)]
 pub struct Block<S> {
     pub at: u32,
     pub items: Items<BlockItem<S>>,
 }
 
 /// What a block holds.
-#[derive(Debug, Drop)]
+#[derive(Drop)]
 pub enum BlockItem<S> {
     Declaration(Declaration),
     Statement(S),
 }
 
 /// A statement (C99 6.8).
-#[derive(Debug, Drop)]
+#[derive(Drop)]
 pub enum Stmt {
     Empty(u32),
     Break(u32),
@@ -297,21 +301,21 @@ pub enum Stmt {
 }
 
 /// An `else if`.
-#[derive(Debug, Drop)]
+#[derive(Drop)]
 pub struct Arm<S> {
     pub test: Expr,
     pub then: S,
 }
 
 /// What stands before the first semicolon of a `for`.
-#[derive(Debug, Drop)]
+#[derive(Drop)]
 pub enum ForStart {
     Declaration(Declaration),
     Simple(SimpleStatement),
 }
 
 /// A statement that may also stand in the head of a `for`.
-#[derive(Debug, Drop)]
+#[derive(Drop)]
 pub enum SimpleStatement {
     Expression(Expr),
     /// An assignment (C99 6.5.16), with the operator that stands before its `=`.
@@ -343,7 +347,7 @@ pub enum Step {
 }
 
 /// A place where a checkpoint may be taken.
-#[derive(Debug, Drop)]
+#[derive(Drop)]
 pub enum Mark {
     /// `#pragma ccc checkpoint`.
     Pragma(u32),
@@ -352,7 +356,7 @@ pub enum Mark {
 }
 
 /// A call of MPI. What isn't kept of it is the communicator, always `MPI_COMM_WORLD`.
-#[derive(Debug, Drop)]
+#[derive(Drop)]
 pub enum MpiCall {
     /// The names whose addresses are passed, or none for `NULL, NULL`.
     Init {
@@ -426,7 +430,7 @@ pub enum MpiCall {
 }
 
 /// A buffer's start, count and datatype.
-#[derive(Debug, Drop)]
+#[derive(Drop)]
 pub struct Buffer {
     pub start: Boxed<Expr>,
     pub count: Boxed<Expr>,
@@ -448,7 +452,7 @@ pub struct ReductionWord {
 }
 
 /// The status argument of a call.
-#[derive(Debug, Drop)]
+#[derive(Drop)]
 pub enum Status {
     /// `MPI_STATUS_IGNORE`.
     Ignore(u32),

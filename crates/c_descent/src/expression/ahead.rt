@@ -5,11 +5,11 @@ ghost use Rattle.c_tree.specs.declared.token.Class.TheVariants as class;
 ghost use Rattle.c_tree.specs.declared.token.Value.TheVariants as value;
 ghost use Rattle.c_grammar.specs.Grammar.{Kind, Place, Suffix, Ref, Word, literals, operators, prefixes};
 ghost use Rattle.c_grammar.specs.Meaning.{leaf, none, next_in, starts, limit};
-ghost use Rattle.c_grammar.specs.Gives.{Gives};
+ghost use Rattle.c_grammar.specs.Gives.{Finds};
 ghost use Rattle.c_grammar.specs.Readers.{IsNext, grade as grade_of_operator};
 ghost use Rattle.c_grammar.specs.Trees.{access_class};
 
-use c_grammar::ReadError;
+use c_grammar::Unread;
 use c_grammar::ahead::{at_operator, at_prefix, next_is};
 use c_grammar::reading::pick;
 use c_tree::tree::Access;
@@ -70,9 +70,9 @@ pub fn is_operator(tokens: &[Token], grade: u8) -> bool
 }
 
 /// An operator of the grade.
-pub fn operator(tokens: &[Token], level: u8, grade: u8) -> Result<(Operator, &[Token]), ReadError>
+pub fn operator(tokens: &[Token], level: u8, grade: u8) -> Result<(Operator, &[Token]), Unread>
     requires { grade < 10 }
-    ensures reads { Gives (λ x. leaf (class.Sign x.0) value.Nothing 0 none) (λ x. x.1.now) level (Word Kind (operators grade)) tokens.now result }
+    ensures reads { Finds (λ x. leaf (class.Sign x.0) value.Nothing 0 none) (λ x. x.1.now) level (Word Kind (operators grade)) tokens.now result }
     ensures grade { IfOk result (λ x. grade_of_operator x.0 ≡ grade) }
     ensures level { IfOk result (λ x. level ≤ limit) }
     ensures shorter { IfOk result (λ x. length x.1.now < length tokens.now) }
@@ -84,8 +84,8 @@ pub fn operator(tokens: &[Token], level: u8, grade: u8) -> Result<(Operator, &[T
 }
 
 /// An access to a member, with its place.
-pub fn access(tokens: &[Token], level: u8) -> Result<((u32, Access), &[Token]), ReadError>
-    ensures reads { Gives (λ x. leaf (access_class x.0.1) value.Nothing x.0.0 none) (λ x. x.1.now) level (Word Place (class.Dot ∷ class.Arrow ∷ [])) tokens.now result }
+pub fn access(tokens: &[Token], level: u8) -> Result<((u32, Access), &[Token]), Unread>
+    ensures reads { Finds (λ x. leaf (access_class x.0.1) value.Nothing x.0.0 none) (λ x. x.1.now) level (Word Place (class.Dot ∷ class.Arrow ∷ [])) tokens.now result }
     ensures level { IfOk result (λ x. level ≤ limit) }
     ensures shorter { IfOk result (λ x. length x.1.now < length tokens.now) }
 {
@@ -96,11 +96,8 @@ pub fn access(tokens: &[Token], level: u8) -> Result<((u32, Access), &[Token]), 
 }
 
 /// A prefix operator, with its place.
-pub fn prefix_operator(
-    tokens: &[Token],
-    level: u8,
-) -> Result<((u32, Operator), &[Token]), ReadError>
-    ensures reads { Gives (λ x. leaf (class.Sign x.0.1) value.Nothing x.0.0 none) (λ x. x.1.now) level (Word Place prefixes) tokens.now result }
+pub fn prefix_operator(tokens: &[Token], level: u8) -> Result<((u32, Operator), &[Token]), Unread>
+    ensures reads { Finds (λ x. leaf (class.Sign x.0.1) value.Nothing x.0.0 none) (λ x. x.1.now) level (Word Place prefixes) tokens.now result }
     ensures level { IfOk result (λ x. level ≤ limit) }
     ensures shorter { IfOk result (λ x. length x.1.now < length tokens.now) }
 {

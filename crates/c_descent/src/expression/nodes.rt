@@ -3,13 +3,13 @@
 
 ghost use Rattle.std.specs.Prelude.{◌≡◌, ◌≤◌, ◌<◌, suc, IfOk};
 ghost use Rattle.c_tree.specs.declared.token.Class.TheVariants as class;
-ghost use Rattle.c_grammar.specs.Grammar.{Arguments, Binary, Suffix};
+ghost use Rattle.c_grammar.specs.Grammar.{Arguments, Binary};
 ghost use Rattle.c_grammar.specs.Meaning.{none, node, ◌+++◌};
-ghost use Rattle.c_grammar.specs.Trees.{shape, operand, operand as operand_shape, word, each, at_grade, grade_of, access_class, name_row, type_name_row, member_name_row, expression_tree, unary_tree, link_row};
+ghost use Rattle.c_grammar.specs.Trees.{shape, primary_row, suffix_row, suffix_tree, operand, operand as operand_shape, word, each, at_grade, grade_of, access_class, name_row, type_name_row, member_name_row, expression_tree, unary_tree, link_row};
 ghost use Rattle.c_descent.specs.More.{FirstOf};
 
 use c_tree::Operator;
-use c_tree::tree::{Access, Expr, Link, MemberName, Name, TypeName};
+use c_tree::tree::{Access, Expr, Link, MemberName, Name, Primary, Suffix, TypeName};
 use sqlite_items::{Boxed, Items};
 use std::alloc::{AllocError, Global};
 
@@ -78,63 +78,82 @@ pub fn cast(
     Boxed::new(alloc, Expr::Cast { at, name, operand })
 }
 
-/// An expression in parentheses.
-pub fn group(alloc: Global, at: u32, inner: Boxed<Expr>) -> Result<Boxed<Expr>, AllocError>
-    ensures { IfOk result (λ x. shape x ≡ operand (word class.LeftParen at (expression_tree inner))) }
+/// A primary expression with what is selected from it (C99 6.5.2).
+pub fn postfix(
+    alloc: Global,
+    primary: Boxed<Primary<Expr>>,
+    suffixes: Items<Suffix<Expr>>,
+) -> Result<Boxed<Expr>, AllocError>
+    ensures { IfOk result (λ x. shape x ≡ operand (primary_row shape primary +++ each (suffix_tree shape) suffixes)) }
 {
-    Boxed::new(alloc, Expr::Group { at, inner })
+    let postfix = Expr::Postfix {
+        primary: primary.into_inner(),
+        suffixes,
+    };
+    Boxed::new(alloc, postfix)
+}
+
+/// An expression in parentheses.
+pub fn group(alloc: Global, at: u32, inner: Boxed<Expr>) -> Result<Boxed<Primary<Expr>>, AllocError>
+    ensures { IfOk result (λ x. primary_row shape x ≡ word class.LeftParen at (expression_tree inner)) }
+{
+    Boxed::new(alloc, Primary::Group { at, inner })
 }
 
 /// A call of `malloc`.
-pub fn allocation(alloc: Global, at: u32, size: Boxed<Expr>) -> Result<Boxed<Expr>, AllocError>
-    ensures { IfOk result (λ x. shape x ≡ operand (word class.Malloc at (expression_tree size))) }
-{
-    Boxed::new(alloc, Expr::Malloc { at, size })
-}
-
-/// An element of an array (C99 6.5.2.1).
-pub fn index(
+pub fn allocation(
     alloc: Global,
-    base: Boxed<Expr>,
     at: u32,
-    index: Boxed<Expr>,
-) -> Result<Boxed<Expr>, AllocError>
-    ensures { IfOk result (λ x. shape x ≡ operand ((shape base).row +++ node Suffix (word class.LeftBracket at (expression_tree index)) none)) }
+    size: Boxed<Expr>,
+) -> Result<Boxed<Primary<Expr>>, AllocError>
+    ensures { IfOk result (λ x. primary_row shape x ≡ word class.Malloc at (expression_tree size)) }
 {
-    Boxed::new(alloc, Expr::Index { base, at, index })
-}
-
-/// A member of a structure (C99 6.5.2.3).
-pub fn member(
-    alloc: Global,
-    base: Boxed<Expr>,
-    at: u32,
-    access: Access,
-    name: MemberName,
-) -> Result<Boxed<Expr>, AllocError>
-    ensures { IfOk result (λ x. shape x ≡ operand ((shape base).row +++ node Suffix (word (access_class access) at (member_name_row name)) none)) }
-{
-    let member = Expr::Member {
-        base,
-        at,
-        access,
-        name,
-    };
-    Boxed::new(alloc, member)
+    Boxed::new(alloc, Primary::Malloc { at, size })
 }
 
 /// A variable.
-pub fn variable(alloc: Global, name: Name) -> Result<Boxed<Expr>, AllocError>
-    ensures { IfOk result (λ x. shape x ≡ operand (name_row name)) }
+pub fn variable(alloc: Global, name: Name) -> Result<Boxed<Primary<Expr>>, AllocError>
+    ensures { IfOk result (λ x. primary_row shape x ≡ name_row name) }
 {
-    Boxed::new(alloc, Expr::Name(name))
+    Boxed::new(alloc, Primary::Name(name))
 }
 
 /// A call (C99 6.5.2.2).
-pub fn call(alloc: Global, name: Name, arguments: Items<Expr>) -> Result<Boxed<Expr>, AllocError>
-    ensures { IfOk result (λ x. shape x ≡ operand (name_row name +++ node Arguments (each expression_tree arguments) none)) }
+pub fn call(
+    alloc: Global,
+    name: Name,
+    arguments: Items<Expr>,
+) -> Result<Boxed<Primary<Expr>>, AllocError>
+    ensures { IfOk result (λ x. primary_row shape x ≡ name_row name +++ node Arguments (each expression_tree arguments) none) }
 {
-    Boxed::new(alloc, Expr::Call { name, arguments })
+    Boxed::new(alloc, Primary::Call { name, arguments })
+}
+
+/// What selects an element of an array (C99 6.5.2.1).
+pub fn subscript(
+    alloc: Global,
+    at: u32,
+    index: Boxed<Expr>,
+) -> Result<Boxed<Suffix<Expr>>, AllocError>
+    ensures { IfOk result (λ x. suffix_row shape x ≡ word class.LeftBracket at (expression_tree index)) }
+{
+    let subscript = Suffix::Index {
+        at,
+        index: index.into_inner(),
+    };
+    Boxed::new(alloc, subscript)
+}
+
+/// What selects a member of a structure (C99 6.5.2.3).
+pub fn selection(
+    alloc: Global,
+    at: u32,
+    access: Access,
+    name: MemberName,
+) -> Result<Boxed<Suffix<Expr>>, AllocError>
+    ensures { IfOk result (λ x. suffix_row shape x ≡ word (access_class access) at (member_name_row name)) }
+{
+    Boxed::new(alloc, Suffix::Member { at, access, name })
 }
 
 /// The size of a type.

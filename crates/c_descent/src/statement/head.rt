@@ -38,7 +38,7 @@ pub fn do_test(
 }
 
 /// The clauses of a `for` (C99 6.8.5.3).
-#[derive(Debug, Drop)]
+#[derive(Drop)]
 pub struct Clauses {
     pub start: Option<Boxed<ForStart>>,
     pub test: Option<Boxed<Expr>>,

@@ -8,7 +8,7 @@ ghost use Rattle.c_tree.specs.declared.token.Value.TheVariants as value;
 ghost use Rattle.c_grammar.specs.Grammar as grammar;
 ghost use Rattle.c_grammar.specs.Grammar.{Many, Ref, valued, ◌⊳◌};
 ghost use Rattle.c_grammar.specs.Meaning.{begins, leaf, limit, next_in, node, none};
-ghost use Rattle.c_grammar.specs.Gives.{Gives};
+ghost use Rattle.c_grammar.specs.Gives.{Finds, Gives};
 ghost use Rattle.c_grammar.specs.Trees.{each, expression_tree, mark_row, statement_row};
 ghost use Rattle.c_descent.specs.Statements.{holders, leaves};
 
@@ -18,9 +18,9 @@ use super::simple::simple_statement;
 use crate::call::mpi_call;
 use crate::expression::{expression, inside};
 use crate::words::{followed_by, text};
-use c_grammar::ReadError;
 use c_grammar::ahead::{at_mpi_call, next_is};
 use c_grammar::reading::{place, skip};
+use c_grammar::{ReadError, Unread};
 use c_tree::tree::{Expr, Mark, Stmt, Text};
 use c_tree::{Class, Token};
 use sqlite_items::Items;
@@ -37,13 +37,16 @@ pub fn leaf_statement(
     ensures shorter { IfOk result (λ x. length x.1.now < length tokens.now) }
 {
     if next_is(tokens, Class::Semicolon) {
-        return empty_statement(tokens, level);
+        let (leaf, rest) = empty_statement(tokens, level)?;
+        return Ok((leaf, rest));
     }
     if next_is(tokens, Class::Break) {
-        return break_statement(tokens, level);
+        let (leaf, rest) = break_statement(tokens, level)?;
+        return Ok((leaf, rest));
     }
     if next_is(tokens, Class::Continue) {
-        return continue_statement(tokens, level);
+        let (leaf, rest) = continue_statement(tokens, level)?;
+        return Ok((leaf, rest));
     }
     if next_is(tokens, Class::Return) {
         return return_statement(alloc, tokens, level);
@@ -55,7 +58,8 @@ pub fn leaf_statement(
         return free_statement(alloc, tokens, level);
     }
     if at_mark(tokens) {
-        return mark_statement(tokens, level);
+        let (leaf, rest) = mark_statement(tokens, level)?;
+        return Ok((leaf, rest));
     }
     if at_mpi_call(tokens) {
         return call_statement(alloc, tokens, level);
@@ -64,9 +68,9 @@ pub fn leaf_statement(
 }
 
 /// A semicolon by itself (C99 6.8.3).
-fn empty_statement(tokens: &[Token], level: u8) -> Result<(Stmt, &[Token]), ReadError>
+fn empty_statement(tokens: &[Token], level: u8) -> Result<(Stmt, &[Token]), Unread>
     requires { level ≤ limit + 1 }
-    ensures reads { next_in (class.Semicolon ∷ []) tokens.now ≡ true → Gives (λ x. statement_row x.0) (λ x. x.1.now) level (Ref grammar.PlainStatement) tokens.now result }
+    ensures reads { next_in (class.Semicolon ∷ []) tokens.now ≡ true → Finds (λ x. statement_row x.0) (λ x. x.1.now) level (Ref grammar.PlainStatement) tokens.now result }
     ensures shorter { IfOk result (λ x. length x.1.now < length tokens.now) }
 {
     let (at, rest) = place(tokens, Class::Semicolon, level)?;
@@ -74,9 +78,9 @@ fn empty_statement(tokens: &[Token], level: u8) -> Result<(Stmt, &[Token]), Read
 }
 
 /// A `break` (C99 6.8.6.3).
-fn break_statement(tokens: &[Token], level: u8) -> Result<(Stmt, &[Token]), ReadError>
+fn break_statement(tokens: &[Token], level: u8) -> Result<(Stmt, &[Token]), Unread>
     requires { level ≤ limit + 1 }
-    ensures reads { next_in (class.Break ∷ []) tokens.now ≡ true → Gives (λ x. statement_row x.0) (λ x. x.1.now) level (Ref grammar.PlainStatement) tokens.now result }
+    ensures reads { next_in (class.Break ∷ []) tokens.now ≡ true → Finds (λ x. statement_row x.0) (λ x. x.1.now) level (Ref grammar.PlainStatement) tokens.now result }
     ensures shorter { IfOk result (λ x. length x.1.now < length tokens.now) }
 {
     let (at, rest) = place(tokens, Class::Break, level)?;
@@ -85,9 +89,9 @@ fn break_statement(tokens: &[Token], level: u8) -> Result<(Stmt, &[Token]), Read
 }
 
 /// A `continue` (C99 6.8.6.2).
-fn continue_statement(tokens: &[Token], level: u8) -> Result<(Stmt, &[Token]), ReadError>
+fn continue_statement(tokens: &[Token], level: u8) -> Result<(Stmt, &[Token]), Unread>
     requires { level ≤ limit + 1 }
-    ensures reads { next_in (class.Continue ∷ []) tokens.now ≡ true → Gives (λ x. statement_row x.0) (λ x. x.1.now) level (Ref grammar.PlainStatement) tokens.now result }
+    ensures reads { next_in (class.Continue ∷ []) tokens.now ≡ true → Finds (λ x. statement_row x.0) (λ x. x.1.now) level (Ref grammar.PlainStatement) tokens.now result }
     ensures shorter { IfOk result (λ x. length x.1.now < length tokens.now) }
 {
     let (at, rest) = place(tokens, Class::Continue, level)?;
@@ -185,9 +189,9 @@ fn printed(alloc: Global, tokens: &[Token], level: u8) -> Result<(Items<Expr>, &
 }
 
 /// A mark, as a statement.
-fn mark_statement(tokens: &[Token], level: u8) -> Result<(Stmt, &[Token]), ReadError>
+fn mark_statement(tokens: &[Token], level: u8) -> Result<(Stmt, &[Token]), Unread>
     requires { level ≤ limit + 1 }
-    ensures reads { next_in (begins grammar.Mark) tokens.now ≡ true → Gives (λ x. statement_row x.0) (λ x. x.1.now) level (Ref grammar.PlainStatement) tokens.now result }
+    ensures reads { next_in (begins grammar.Mark) tokens.now ≡ true → Finds (λ x. statement_row x.0) (λ x. x.1.now) level (Ref grammar.PlainStatement) tokens.now result }
     ensures shorter { IfOk result (λ x. length x.1.now < length tokens.now) }
 {
     let (place, rest) = mark(tokens, level)?;
@@ -196,9 +200,9 @@ fn mark_statement(tokens: &[Token], level: u8) -> Result<(Stmt, &[Token]), ReadE
 
 /// A place where a checkpoint may be taken.
 #[tactic(auto, using(c_grammar::proofs::Steps::descent))]
-fn mark(tokens: &[Token], level: u8) -> Result<(Mark, &[Token]), ReadError>
+fn mark(tokens: &[Token], level: u8) -> Result<(Mark, &[Token]), Unread>
     requires { level ≤ limit + 1 }
-    ensures reads { Gives (λ x. node grammar.Mark (mark_row x.0) none) (λ x. x.1.now) level (Ref grammar.Mark) tokens.now result }
+    ensures reads { Finds (λ x. node grammar.Mark (mark_row x.0) none) (λ x. x.1.now) level (Ref grammar.Mark) tokens.now result }
     ensures shorter { IfOk result (λ x. length x.1.now < length tokens.now) }
 {
     if next_is(tokens, Class::Checkpoint) {

@@ -4,15 +4,15 @@ ghost use Rattle.std.specs.Prelude.{◌≤◌, ◌<◌, ◌+◌, IfOk, length};
 ghost use Rattle.c_grammar.specs.Grammar as grammar;
 ghost use Rattle.c_grammar.specs.Grammar.{Maybe, Ref, ◌∥◌, ◌⊳◌};
 ghost use Rattle.c_grammar.specs.Meaning.{limit, none, ◌+++◌};
-ghost use Rattle.c_grammar.specs.Gives.{Gives};
+ghost use Rattle.c_grammar.specs.Gives.{Finds, Gives};
 ghost use Rattle.c_grammar.specs.Readers.{assign_class};
 ghost use Rattle.c_grammar.specs.Trees.{expression_tree, simple_row, simple_tree, step_class, word};
 
 use super::ahead::{at_step, is_assignment, is_step};
 use crate::expression::{expression, unary};
-use c_grammar::ReadError;
 use c_grammar::ahead::at_assignment;
 use c_grammar::reading::pick;
+use c_grammar::{ReadError, Unread};
 use c_tree::tree::{Expr, SimpleStatement, Step};
 use c_tree::{Operator, Token};
 use std::alloc::Global;
@@ -84,16 +84,16 @@ fn after_expression(
 }
 
 /// `=` or an operator and `=`.
-fn assignment(tokens: &[Token], level: u8) -> Result<(u32, Option<Operator>, &[Token]), ReadError>
-    ensures reads { Gives (λ x. word (assign_class x.1) x.0 none) (λ x. x.2.now) level (grammar.one_of grammar.assignments) tokens.now result }
+fn assignment(tokens: &[Token], level: u8) -> Result<(u32, Option<Operator>, &[Token]), Unread>
+    ensures reads { Finds (λ x. word (assign_class x.1) x.0 none) (λ x. x.2.now) level (grammar.one_of grammar.assignments) tokens.now result }
     ensures shorter { IfOk result (λ x. length x.2.now < length tokens.now) }
 {
     pick(tokens, at_assignment(tokens), level)
 }
 
 /// `++` or `--`.
-fn read_step(tokens: &[Token], level: u8) -> Result<(u32, Step, &[Token]), ReadError>
-    ensures reads { Gives (λ x. word (step_class x.1) x.0 none) (λ x. x.2.now) level (grammar.one_of grammar.increments) tokens.now result }
+fn read_step(tokens: &[Token], level: u8) -> Result<(u32, Step, &[Token]), Unread>
+    ensures reads { Finds (λ x. word (step_class x.1) x.0 none) (λ x. x.2.now) level (grammar.one_of grammar.increments) tokens.now result }
     ensures shorter { IfOk result (λ x. length x.2.now < length tokens.now) }
 {
     pick(tokens, at_step(tokens), level)

@@ -1,15 +1,15 @@
 use Rattle.c_tree.specs.declared.token.Class.TheVariants as class
 use Rattle.c_tree.specs.declared.token.Call.TheVariants as call
 use Rattle.c_grammar.specs.Grammar.{◌⊳◌, placed, word}
-use Rattle.c_grammar.proofs.Steps.{passed_on, fails_from, f_ref, r_ref}
+use Rattle.c_grammar.proofs.Steps.{stop_found, stops_from, f_ref, r_ref}
 use Rattle.c_descent.proofs.CallSteps.{f_before, f_more, r_more}
 use Rattle.c_descent.proofs.call.finalize_call.Goals as goal
 
 pub returns-in_err-at-clause-reads : goal.returns-in_err-at-clause-reads
-returns-in_err-at-clause-reads c = passed_on _ _ _ _ _ _ _ c.from_residual.ensures.1 (fails_from _ (λ k z h. f_ref (f_before (placed (class.Mpi call.Finalize) ⊳ word class.LeftParen) _ h)) c.in_err-at.ensures.reads)
+returns-in_err-at-clause-reads c = stop_found _ _ _ _ _ _ _ c.from_residual.ensures.1 (stops_from _ (λ k z h. f_ref (f_before (placed (class.Mpi call.Finalize) ⊳ word class.LeftParen) _ h)) c.in_err-at.ensures.reads)
 
 pub returns-in_err-rest-clause-reads : goal.returns-in_err-rest-clause-reads
-returns-in_err-rest-clause-reads c = passed_on _ _ _ _ _ _ _ c.from_residual-in_err-rest.ensures.1 (fails_from _ (λ k z h. f_ref (f_more (placed (class.Mpi call.Finalize) ⊳ word class.LeftParen) c.in_ok-at.ensures.reads (h))) c.in_err-rest.ensures.reads)
+returns-in_err-rest-clause-reads c = stop_found _ _ _ _ _ _ _ c.from_residual-in_err-rest.ensures.1 (stops_from _ (λ k z h. f_ref (f_more (placed (class.Mpi call.Finalize) ⊳ word class.LeftParen) c.in_ok-at.ensures.reads (h))) c.in_err-rest.ensures.reads)
 
 pub returns-clause-reads : goal.returns-clause-reads
 returns-clause-reads c = r_ref (r_more (placed (class.Mpi call.Finalize) ⊳ word class.LeftParen) c.in_ok-at.ensures.reads c.in_ok-rest.ensures.reads)

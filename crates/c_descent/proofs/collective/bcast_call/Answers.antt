@@ -2,12 +2,12 @@ use Rattle.c_tree.specs.declared.token.Class.TheVariants as class
 use Rattle.c_tree.specs.declared.token.Call.TheVariants as call
 use Rattle.c_grammar.specs.Grammar as grammar
 use Rattle.c_grammar.specs.Grammar.{Ref, ◌⊳◌, comma, datatype, e, one_of, operation, placed, word, world}
-use Rattle.c_grammar.proofs.Steps.{passed_on, fails_from, f_first, f_ref, f_second, r_deeper, r_end, r_ref}
+use Rattle.c_grammar.proofs.Steps.{passed_on, stop_passed_on, fails_from, stops_from, f_first, f_ref, f_second, r_deeper, r_end, r_ref}
 use Rattle.c_descent.proofs.CallSteps.{f_before, f_more, r_more}
 use Rattle.c_descent.proofs.collective.bcast_call.Goals as goal
 
 pub returns-in_err-at-clause-reads : goal.returns-in_err-at-clause-reads
-returns-in_err-at-clause-reads c = passed_on _ _ _ _ _ _ _ c.from_residual.ensures.1 (fails_from _ (λ k z h. f_ref (f_before (placed (class.Mpi call.Bcast) ⊳ word class.LeftParen) _ h)) c.in_err-at.ensures.reads)
+returns-in_err-at-clause-reads c = stop_passed_on _ _ _ _ _ _ _ c.from_residual.ensures.1 (stops_from _ (λ k z h. f_ref (f_before (placed (class.Mpi call.Bcast) ⊳ word class.LeftParen) _ h)) c.in_err-at.ensures.reads)
 
 pub returns-in_err-buffer-clause-reads : goal.returns-in_err-buffer-clause-reads
 returns-in_err-buffer-clause-reads c = passed_on _ _ _ _ _ _ _ c.from_residual-in_err-buffer.ensures.1 (fails_from _ (λ k z h. f_ref (f_more (placed (class.Mpi call.Bcast) ⊳ word class.LeftParen) c.in_ok-at.ensures.reads (f_first (r_deeper (f_before (Ref grammar.Buffer) _ h))))) c.in_err-buffer.ensures.reads)
@@ -16,7 +16,7 @@ pub returns-in_err-root-clause-reads : goal.returns-in_err-root-clause-reads
 returns-in_err-root-clause-reads c = passed_on _ _ _ _ _ _ _ c.from_residual-in_err-root.ensures.1 (fails_from _ (λ k z h. f_ref (f_more (placed (class.Mpi call.Bcast) ⊳ word class.LeftParen) c.in_ok-at.ensures.reads (f_first (r_deeper (f_more (Ref grammar.Buffer) c.in_ok-buffer.ensures.reads (h)))))) c.in_err-root.ensures.reads)
 
 pub returns-in_err-rest-clause-reads : goal.returns-in_err-rest-clause-reads
-returns-in_err-rest-clause-reads c = passed_on _ _ _ _ _ _ _ c.from_residual-in_err-rest.ensures.1 (fails_from _ (λ k z h. f_ref (f_more (placed (class.Mpi call.Bcast) ⊳ word class.LeftParen) c.in_ok-at.ensures.reads (f_second (r_deeper (r_more (Ref grammar.Buffer) c.in_ok-buffer.ensures.reads c.in_ok-root.ensures.reads)) h))) c.in_err-rest.ensures.reads)
+returns-in_err-rest-clause-reads c = stop_passed_on _ _ _ _ _ _ _ c.from_residual-in_err-rest.ensures.1 (stops_from _ (λ k z h. f_ref (f_more (placed (class.Mpi call.Bcast) ⊳ word class.LeftParen) c.in_ok-at.ensures.reads (f_second (r_deeper (r_more (Ref grammar.Buffer) c.in_ok-buffer.ensures.reads c.in_ok-root.ensures.reads)) h))) c.in_err-rest.ensures.reads)
 
 pub returns-clause-reads : goal.returns-clause-reads
 returns-clause-reads c = rw c.into_inner-root.ensures (r_ref (r_more (placed (class.Mpi call.Bcast) ⊳ word class.LeftParen) c.in_ok-at.ensures.reads (r_end (r_deeper (r_more (Ref grammar.Buffer) c.in_ok-buffer.ensures.reads c.in_ok-root.ensures.reads)) c.in_ok-rest.ensures.reads)))

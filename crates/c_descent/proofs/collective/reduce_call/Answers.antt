@@ -6,12 +6,12 @@ use Rattle.c_grammar.specs.Grammar as grammar
 use Rattle.c_grammar.specs.Grammar.{Ref, ◌⊳◌, comma, datatype, e, one_of, operation, placed, word, world}
 use Rattle.c_grammar.specs.Meaning.{Forest, leaf, node, none, ◌+++◌}
 use Rattle.c_grammar.specs.Trees.{buffer_tree, expression_tree, reduction_row}
-use Rattle.c_grammar.proofs.Steps.{passed_on, fails_from, f_first, f_ref, f_second, forest_assoc, r_deeper, r_end, r_ref, r_same}
+use Rattle.c_grammar.proofs.Steps.{passed_on, stop_passed_on, fails_from, stops_from, f_first, f_ref, f_second, forest_assoc, r_deeper, r_end, r_ref, r_same}
 use Rattle.c_descent.proofs.CallSteps.{f_before, f_more, r_more}
 use Rattle.c_descent.proofs.collective.reduce_call.Goals as goal
 
 pub returns-in_err-at-clause-reads : goal.returns-in_err-at-clause-reads
-returns-in_err-at-clause-reads c = passed_on _ _ _ _ _ _ _ c.from_residual.ensures.1 (fails_from _ (λ k z h. f_ref (f_before (placed (class.Mpi call.Reduce) ⊳ word class.LeftParen) _ h)) c.in_err-at.ensures.reads)
+returns-in_err-at-clause-reads c = stop_passed_on _ _ _ _ _ _ _ c.from_residual.ensures.1 (stops_from _ (λ k z h. f_ref (f_before (placed (class.Mpi call.Reduce) ⊳ word class.LeftParen) _ h)) c.in_err-at.ensures.reads)
 
 pub returns-in_err-arguments-clause-reads : goal.returns-in_err-arguments-clause-reads
 returns-in_err-arguments-clause-reads c = passed_on _ _ _ _ _ _ _ c.from_residual-in_err-arguments.ensures.1 (fails_from _ (λ k z h. f_ref (f_more (placed (class.Mpi call.Reduce) ⊳ word class.LeftParen) c.in_ok-at.ensures.reads (f_first (r_deeper (f_before (e ⊳ comma ⊳ Ref grammar.Buffer ⊳ comma ⊳ operation) _ h))))) c.in_err-arguments.ensures.reads)
@@ -20,7 +20,7 @@ pub returns-in_err-root-clause-reads : goal.returns-in_err-root-clause-reads
 returns-in_err-root-clause-reads c = passed_on _ _ _ _ _ _ _ c.from_residual-in_err-root.ensures.1 (fails_from _ (λ k z h. f_ref (f_more (placed (class.Mpi call.Reduce) ⊳ word class.LeftParen) c.in_ok-at.ensures.reads (f_first (r_deeper (f_more (e ⊳ comma ⊳ Ref grammar.Buffer ⊳ comma ⊳ operation) c.in_ok-arguments.ensures.reads (h)))))) c.in_err-root.ensures.reads)
 
 pub returns-in_err-rest-clause-reads : goal.returns-in_err-rest-clause-reads
-returns-in_err-rest-clause-reads c = passed_on _ _ _ _ _ _ _ c.from_residual-in_err-rest.ensures.1 (fails_from _ (λ k z h. f_ref (f_more (placed (class.Mpi call.Reduce) ⊳ word class.LeftParen) c.in_ok-at.ensures.reads (f_second (r_deeper (r_more (e ⊳ comma ⊳ Ref grammar.Buffer ⊳ comma ⊳ operation) c.in_ok-arguments.ensures.reads c.in_ok-root.ensures.reads)) h))) c.in_err-rest.ensures.reads)
+returns-in_err-rest-clause-reads c = stop_passed_on _ _ _ _ _ _ _ c.from_residual-in_err-rest.ensures.1 (stops_from _ (λ k z h. f_ref (f_more (placed (class.Mpi call.Reduce) ⊳ word class.LeftParen) c.in_ok-at.ensures.reads (f_second (r_deeper (r_more (e ⊳ comma ⊳ Ref grammar.Buffer ⊳ comma ⊳ operation) c.in_ok-arguments.ensures.reads c.in_ok-root.ensures.reads)) h))) c.in_err-rest.ensures.reads)
 
 pub returns-clause-reads : goal.returns-clause-reads
 returns-clause-reads c = rw (c.into_inner.ensures, c.into_inner-2.ensures) (r_same (r_ref (r_more (placed (class.Mpi call.Reduce) ⊳ word class.LeftParen) c.in_ok-at.ensures.reads (r_end (r_deeper (r_more (e ⊳ comma ⊳ Ref grammar.Buffer ⊳ comma ⊳ operation) c.in_ok-arguments.ensures.reads c.in_ok-root.ensures.reads)) c.in_ok-rest.ensures.reads))) (ap (λ (f : Forest). node grammar.ReduceCall (leaf (class.Mpi call.Reduce) value.Nothing c.in_ok-at.at f) none) (forest_assoc (expression_tree c.in_ok-arguments.arguments.send) (buffer_tree c.in_ok-arguments.arguments.receive +++ reduction_row c.in_ok-arguments.arguments.operation) (expression_tree c.in_ok-root.root))))

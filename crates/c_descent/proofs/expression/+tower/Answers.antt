@@ -4,10 +4,10 @@ use Rattle.c_tree.specs.declared.tree.Expr.{Expr}
 use Rattle.c_tree.specs.declared.tree.Link.{Link}
 use Rattle.c_grammar.specs.Grammar.{operators, literals}
 use Rattle.c_grammar.specs.Meaning.{none, node, ◌+++◌, next_in, starts}
-use Rattle.c_grammar.specs.Trees.{Shape, shape, whole, word, each, link_row, name_row, expression_tree}
+use Rattle.c_grammar.specs.Trees.{Shape, shape, primary_row, suffix_tree, whole, word, each, link_row, name_row, expression_tree}
 use Rattle.c_grammar.specs.Grammar as grammar
-use Rattle.c_grammar.proofs.Steps.{passed_on, fails_from, r_same, r_ref, f_ref, r_seq, f_first, f_second, r_left, r_right, r_yes, r_no, r_deeper, r_skip, r_end, past_start, past_step, past_stop, past_fault, none_right}
-use Rattle.c_descent.proofs.ExpressionSteps.{r_row, whole_alone, r_binary, f_binary_first, f_binary_second, more_after, gives_unary, row_more, first_push, more_more, more_passed_on, gives_operand, row_push, row_one, past_same}
+use Rattle.c_grammar.proofs.Steps.{passed_on, stop_passed_on, fails_from, stops_from, r_same, r_ref, f_ref, r_seq, f_first, f_second, r_left, r_right, r_yes, r_no, r_deeper, r_skip, r_end, past_start, past_step, past_stop, past_fault, none_right}
+use Rattle.c_descent.proofs.ExpressionSteps.{r_row, whole_alone, r_binary, f_binary_first, f_binary_second, more_after, gives_unary, row_more, first_push, more_more, more_passed_on, gives_operand, row_push, row_one, past_same, more_stop_passed_on}
 use Rattle.c_descent.specs.More.{FirstOf}
 use Rattle.c_descent.proofs.expression.+tower.Goals as goal
 
@@ -40,7 +40,7 @@ choice_arms-returns-clause-reads t c =
 
 pub choice_arms-returns-in_err-rest-clause-reads : goal.choice_arms-returns-in_err-rest-clause-reads
 choice_arms-returns-in_err-rest-clause-reads t c =
-    passed_on _ _ _ _ _ _ _ c.from_residual.ensures.1 (fails_from _ (λ k z h. f_first h) c.in_err-rest.ensures.reads)
+    stop_passed_on _ _ _ _ _ _ _ c.from_residual.ensures.1 (stops_from _ (λ k z h. f_first h) c.in_err-rest.ensures.reads)
 
 pub choice_arms-returns-in_err-then-clause-reads : goal.choice_arms-returns-in_err-then-clause-reads
 choice_arms-returns-in_err-then-clause-reads t c =
@@ -48,7 +48,7 @@ choice_arms-returns-in_err-then-clause-reads t c =
 
 pub choice_arms-returns-in_err-rest-2-clause-reads : goal.choice_arms-returns-in_err-rest-2-clause-reads
 choice_arms-returns-in_err-rest-2-clause-reads t c =
-    passed_on _ _ _ _ _ _ _ c.from_residual-in_err-rest-2.ensures.1 (fails_from _ (λ k z h. f_second c.in_ok-rest.ensures.reads (f_second (r_deeper c.in_ok-then.ensures.reads) (f_first h))) c.in_err-rest-2.ensures.reads)
+    stop_passed_on _ _ _ _ _ _ _ c.from_residual-in_err-rest-2.ensures.1 (stops_from _ (λ k z h. f_second c.in_ok-rest.ensures.reads (f_second (r_deeper c.in_ok-then.ensures.reads) (f_first h))) c.in_err-rest-2.ensures.reads)
 
 pub binary-returns-in_err-links-clause-reads : goal.binary-returns-in_err-links-clause-reads
 binary-returns-in_err-links-clause-reads t c =
@@ -73,7 +73,7 @@ operand-returns-clause-reads t c =
 pub links-returns-in_err-operator-clause-reads : goal.links-returns-in_err-operator-clause-reads
 links-returns-in_err-operator-clause-reads t c =
     let q : next_in (operators c.args.grade) c.links.rest.now ≡ true = cc in
-    passed_on _ _ _ _ _ _ _ c.from_residual.ensures.1 (fails_from _ (λ k z h. past_fault c.links.invariant.past q (f_first h)) c.in_err-operator.ensures.reads)
+    stop_passed_on _ _ _ _ _ _ _ c.from_residual.ensures.1 (stops_from _ (λ k z h. past_fault c.links.invariant.past q (f_first h)) c.in_err-operator.ensures.reads)
 
 pub links-returns-in_err-operand-clause-reads : goal.links-returns-in_err-operand-clause-reads
 links-returns-in_err-operand-clause-reads t c =
@@ -140,30 +140,30 @@ unary-returns-clause-reads t c =
 
 pub constant-returns-clause-reads : goal.constant-returns-clause-reads
 constant-returns-clause-reads t c =
-    more_after _ _ _ (shape c.in_ok-base.base).row c.suffixes.result refl
-    (λ g zs h. r_seq c.in_ok-base.ensures.reads h)
-    (λ k zs h. f_second c.in_ok-base.ensures.reads h)
-    c.suffixes.ensures.reads
+    more_after _ _ _ (primary_row shape c.in_ok-primary.primary) c.postfix.result refl
+    (λ g zs h. r_seq c.in_ok-primary.ensures.reads h)
+    (λ k zs h. f_second c.in_ok-primary.ensures.reads h)
+    c.postfix.ensures.reads
 
-pub constant-returns-in_err-base-clause-reads : goal.constant-returns-in_err-base-clause-reads
-constant-returns-in_err-base-clause-reads t c =
-    passed_on _ _ _ _ _ _ _ c.from_residual.ensures.1 (fails_from _ (λ k z h. f_first h) c.in_err-base.ensures.reads)
+pub constant-returns-in_err-primary-clause-reads : goal.constant-returns-in_err-primary-clause-reads
+constant-returns-in_err-primary-clause-reads t c =
+    passed_on _ _ _ _ _ _ _ c.from_residual.ensures.1 (fails_from _ (λ k z h. f_first h) c.in_err-primary.ensures.reads)
 
 pub named-returns-then-not-next_is-clause-reads : goal.named-returns-then-not-next_is-clause-reads
 named-returns-then-not-next_is-clause-reads t c =
     let q : next_in (class.LeftParen ∷ []) c.in_ok-name.rest.now ≡ false = cc in
-    more_after _ _ _ (name_row c.in_ok-name.name) c.suffixes.result (ap (λ (s : Shape). s.row) c.in_ok-base.ensures)
+    more_after _ _ _ (name_row c.in_ok-name.name) c.postfix.result c.in_ok-primary.ensures
     (λ g zs h. r_seq c.in_ok-name.ensures.reads (r_seq (r_no q) h))
     (λ k zs h. f_second c.in_ok-name.ensures.reads (f_second (r_no q) h))
-    c.suffixes.ensures.reads
+    c.postfix.ensures.reads
 
 pub named-returns-clause-reads : goal.named-returns-clause-reads
 named-returns-clause-reads t c =
     let q : next_in (class.LeftParen ∷ []) c.in_ok-name.rest.now ≡ true = cc in
-    more_after _ _ _ (name_row c.in_ok-name.name +++ node grammar.Arguments (each expression_tree c.in_ok-arguments.arguments) none) c.suffixes-2.result (ap (λ (s : Shape). s.row) c.in_ok-base-2.ensures)
+    more_after _ _ _ (name_row c.in_ok-name.name +++ node grammar.Arguments (each expression_tree c.in_ok-arguments.arguments) none) c.postfix-2.result c.in_ok-primary-2.ensures
     (λ g zs h. r_seq c.in_ok-name.ensures.reads (r_seq (r_yes q c.in_ok-arguments.ensures.reads) h))
     (λ k zs h. f_second c.in_ok-name.ensures.reads (f_second (r_yes q c.in_ok-arguments.ensures.reads) h))
-    c.suffixes-2.ensures.reads
+    c.postfix-2.ensures.reads
 
 pub named-returns-in_err-name-clause-reads : goal.named-returns-in_err-name-clause-reads
 named-returns-in_err-name-clause-reads t c =
@@ -180,7 +180,7 @@ arguments-returns-clause-reads t c =
 
 pub arguments-returns-in_err-rest-clause-reads : goal.arguments-returns-in_err-rest-clause-reads
 arguments-returns-in_err-rest-clause-reads t c =
-    passed_on _ _ _ _ _ _ _ c.from_residual.ensures.1 (fails_from _ (λ k z h. f_ref (f_first h)) c.in_err-rest.ensures.reads)
+    stop_passed_on _ _ _ _ _ _ _ c.from_residual.ensures.1 (stops_from _ (λ k z h. f_ref (f_first h)) c.in_err-rest.ensures.reads)
 
 pub arguments-returns-in_err-arguments-clause-reads : goal.arguments-returns-in_err-arguments-clause-reads
 arguments-returns-in_err-arguments-clause-reads t c =
@@ -188,7 +188,7 @@ arguments-returns-in_err-arguments-clause-reads t c =
 
 pub arguments-returns-in_err-rest-2-clause-reads : goal.arguments-returns-in_err-rest-2-clause-reads
 arguments-returns-in_err-rest-2-clause-reads t c =
-    passed_on _ _ _ _ _ _ _ c.from_residual-in_err-rest-2.ensures.1 (fails_from _ (λ k z h. f_ref (f_second c.in_ok-rest.ensures.reads (f_second (r_deeper c.in_ok-arguments.ensures.reads) h))) c.in_err-rest-2.ensures.reads)
+    stop_passed_on _ _ _ _ _ _ _ c.from_residual-in_err-rest-2.ensures.1 (stops_from _ (λ k z h. f_ref (f_second c.in_ok-rest.ensures.reads (f_second (r_deeper c.in_ok-arguments.ensures.reads) h))) c.in_err-rest-2.ensures.reads)
 
 pub argument_list-returns-clause-reads : goal.argument_list-returns-clause-reads
 argument_list-returns-clause-reads t c =
@@ -215,7 +215,7 @@ more_arguments-arguments-init t c =
 pub more_arguments-returns-in_err-after-clause-reads : goal.more_arguments-returns-in_err-after-clause-reads
 more_arguments-returns-in_err-after-clause-reads t c =
     let q : next_in (class.Comma ∷ []) c.arguments.rest.now ≡ true = cc in
-    more_passed_on _ _ _ _ _ _ _ _ c.from_residual.ensures.1 (fails_from _ (λ k z h. past_fault c.arguments.invariant.past.2 q (f_first h)) c.in_err-after.ensures.reads)
+    more_stop_passed_on _ _ _ _ _ _ _ _ c.from_residual.ensures.1 (stops_from _ (λ k z h. past_fault c.arguments.invariant.past.2 q (f_first h)) c.in_err-after.ensures.reads)
 
 pub more_arguments-returns-in_err-argument-clause-reads : goal.more_arguments-returns-in_err-argument-clause-reads
 more_arguments-returns-in_err-argument-clause-reads t c =
@@ -237,14 +237,14 @@ more_arguments-returns-clause-reads t c =
 
 pub allocation-returns-clause-reads : goal.allocation-returns-clause-reads
 allocation-returns-clause-reads t c =
-    more_after _ _ _ (word class.Malloc c.in_ok-at.at (expression_tree c.in_ok-size.size)) c.suffixes.result (ap (λ (s : Shape). s.row) c.in_ok-base.ensures)
+    more_after _ _ _ (word class.Malloc c.in_ok-at.at (expression_tree c.in_ok-size.size)) c.postfix.result c.in_ok-primary.ensures
     (λ g zs h. r_seq c.in_ok-at.ensures.reads (r_seq c.in_ok-size.ensures.reads h))
     (λ k zs h. f_second c.in_ok-at.ensures.reads (f_second c.in_ok-size.ensures.reads h))
-    c.suffixes.ensures.reads
+    c.postfix.ensures.reads
 
 pub allocation-returns-in_err-at-clause-reads : goal.allocation-returns-in_err-at-clause-reads
 allocation-returns-in_err-at-clause-reads t c =
-    passed_on _ _ _ _ _ _ _ c.from_residual.ensures.1 (fails_from _ (λ k z h. f_first h) c.in_err-at.ensures.reads)
+    stop_passed_on _ _ _ _ _ _ _ c.from_residual.ensures.1 (stops_from _ (λ k z h. f_first h) c.in_err-at.ensures.reads)
 
 pub allocation-returns-in_err-size-clause-reads : goal.allocation-returns-in_err-size-clause-reads
 allocation-returns-in_err-size-clause-reads t c =
@@ -256,7 +256,7 @@ inside-returns-clause-reads t c =
 
 pub inside-returns-in_err-rest-clause-reads : goal.inside-returns-in_err-rest-clause-reads
 inside-returns-in_err-rest-clause-reads t c =
-    passed_on _ _ _ _ _ _ _ c.from_residual.ensures.1 (fails_from _ (λ k z h. f_first h) c.in_err-rest.ensures.reads)
+    stop_passed_on _ _ _ _ _ _ _ c.from_residual.ensures.1 (stops_from _ (λ k z h. f_first h) c.in_err-rest.ensures.reads)
 
 pub inside-returns-in_err-inner-clause-reads : goal.inside-returns-in_err-inner-clause-reads
 inside-returns-in_err-inner-clause-reads t c =
@@ -264,7 +264,7 @@ inside-returns-in_err-inner-clause-reads t c =
 
 pub inside-returns-in_err-rest-2-clause-reads : goal.inside-returns-in_err-rest-2-clause-reads
 inside-returns-in_err-rest-2-clause-reads t c =
-    passed_on _ _ _ _ _ _ _ c.from_residual-in_err-rest-2.ensures.1 (fails_from _ (λ k z h. f_second c.in_ok-rest.ensures.reads (f_second (r_deeper c.in_ok-inner.ensures.reads) h)) c.in_err-rest-2.ensures.reads)
+    stop_passed_on _ _ _ _ _ _ _ c.from_residual-in_err-rest-2.ensures.1 (stops_from _ (λ k z h. f_second c.in_ok-rest.ensures.reads (f_second (r_deeper c.in_ok-inner.ensures.reads) h)) c.in_err-rest-2.ensures.reads)
 
 pub parenthesis-returns-then-at_type-clause-reads : goal.parenthesis-returns-then-at_type-clause-reads
 parenthesis-returns-then-at_type-clause-reads t c =
@@ -284,7 +284,7 @@ parenthesis-returns-clause-reads t c =
 
 pub parenthesis-returns-in_err-at-clause-reads : goal.parenthesis-returns-in_err-at-clause-reads
 parenthesis-returns-in_err-at-clause-reads t c =
-    passed_on _ _ _ _ _ _ _ c.from_residual.ensures.1 (fails_from _ (λ k z h. f_first h) c.in_err-at.ensures.reads)
+    stop_passed_on _ _ _ _ _ _ _ c.from_residual.ensures.1 (stops_from _ (λ k z h. f_first h) c.in_err-at.ensures.reads)
 
 pub cast-returns-clause-reads : goal.cast-returns-clause-reads
 cast-returns-clause-reads t c =
@@ -296,7 +296,7 @@ cast-returns-in_err-name-clause-reads t c =
 
 pub cast-returns-in_err-rest-clause-reads : goal.cast-returns-in_err-rest-clause-reads
 cast-returns-in_err-rest-clause-reads t c =
-    more_passed_on _ _ (word class.LeftParen c.args.at none) _ _ _ _ _ c.from_residual-in_err-rest.ensures.1 (fails_from _ (λ k z h. f_second (r_deeper c.in_ok-name.ensures.reads) (f_first h)) c.in_err-rest.ensures.reads)
+    more_stop_passed_on _ _ (word class.LeftParen c.args.at none) _ _ _ _ _ c.from_residual-in_err-rest.ensures.1 (stops_from _ (λ k z h. f_second (r_deeper c.in_ok-name.ensures.reads) (f_first h)) c.in_err-rest.ensures.reads)
 
 pub cast-returns-in_err-operand-clause-reads : goal.cast-returns-in_err-operand-clause-reads
 cast-returns-in_err-operand-clause-reads t c =
@@ -304,10 +304,10 @@ cast-returns-in_err-operand-clause-reads t c =
 
 pub group-returns-clause-reads : goal.group-returns-clause-reads
 group-returns-clause-reads t c =
-    more_more _ _ (word class.LeftParen c.args.at none) (shape c.in_ok-base.base).row (expression_tree c.in_ok-inner.inner) c.suffixes.result (ap (λ (s : Shape). s.row) c.in_ok-base.ensures)
+    more_more _ _ (word class.LeftParen c.args.at none) (primary_row shape c.in_ok-primary.primary) (expression_tree c.in_ok-inner.inner) c.postfix.result c.in_ok-primary.ensures
     (λ g zs h. r_seq (r_deeper c.in_ok-inner.ensures.reads) (r_skip c.in_ok-rest.ensures.reads h))
     (λ k zs h. f_second (r_deeper c.in_ok-inner.ensures.reads) (f_second c.in_ok-rest.ensures.reads h))
-    c.suffixes.ensures.reads
+    c.postfix.ensures.reads
 
 pub group-returns-in_err-inner-clause-reads : goal.group-returns-in_err-inner-clause-reads
 group-returns-in_err-inner-clause-reads t c =
@@ -315,7 +315,7 @@ group-returns-in_err-inner-clause-reads t c =
 
 pub group-returns-in_err-rest-clause-reads : goal.group-returns-in_err-rest-clause-reads
 group-returns-in_err-rest-clause-reads t c =
-    more_passed_on _ _ (word class.LeftParen c.args.at none) _ _ _ _ _ c.from_residual-in_err-rest.ensures.1 (fails_from _ (λ k z h. f_second (r_deeper c.in_ok-inner.ensures.reads) (f_first h)) c.in_err-rest.ensures.reads)
+    more_stop_passed_on _ _ (word class.LeftParen c.args.at none) _ _ _ _ _ c.from_residual-in_err-rest.ensures.1 (stops_from _ (λ k z h. f_second (r_deeper c.in_ok-inner.ensures.reads) (f_first h)) c.in_err-rest.ensures.reads)
 
 pub prefixed-returns-clause-reads : goal.prefixed-returns-clause-reads
 prefixed-returns-clause-reads t c =
@@ -323,62 +323,65 @@ prefixed-returns-clause-reads t c =
 
 pub prefixed-returns-in_err-at-clause-reads : goal.prefixed-returns-in_err-at-clause-reads
 prefixed-returns-in_err-at-clause-reads t c =
-    passed_on _ _ _ _ _ _ _ c.from_residual.ensures.1 (fails_from _ (λ k z h. f_first h) c.in_err-at.ensures.reads)
+    stop_passed_on _ _ _ _ _ _ _ c.from_residual.ensures.1 (stops_from _ (λ k z h. f_first h) c.in_err-at.ensures.reads)
 
 pub prefixed-returns-in_err-operand-clause-reads : goal.prefixed-returns-in_err-operand-clause-reads
 prefixed-returns-in_err-operand-clause-reads t c =
     passed_on _ _ _ _ _ _ _ c.from_residual-in_err-operand.ensures.1 (fails_from _ (λ k z h. f_second c.in_ok-at.ensures.reads (r_deeper h)) c.in_err-operand.ensures.reads)
 
-pub suffixes-suffixes-init : goal.suffixes-suffixes-init
-suffixes-suffixes-init t c =
-    record { past = (none, sym (none_right _), past_start _ _ _); grade = c.requires.grade; shorter = omega arith }
+pub postfix-returns-clause-reads : goal.postfix-returns-clause-reads
+postfix-returns-clause-reads t c =
+    (_, ap (λ (s : Shape). s.row) c.in_ok-postfix.ensures, c.in_ok-suffixes.ensures.reads)
 
-pub suffixes-returns-in_err-longer-clause-reads : goal.suffixes-returns-in_err-longer-clause-reads
-suffixes-returns-in_err-longer-clause-reads t c =
+pub postfix-returns-in_err-suffixes-clause-reads : goal.postfix-returns-in_err-suffixes-clause-reads
+postfix-returns-in_err-suffixes-clause-reads t c =
+    more_passed_on _ _ (primary_row shape c.args.primary) _ _ _ _ _ c.from_residual.ensures.1 c.in_err-suffixes.ensures.reads
+
+pub suffixes-returns-in_err-suffix-clause-reads : goal.suffixes-returns-in_err-suffix-clause-reads
+suffixes-returns-in_err-suffix-clause-reads t c =
     let q : starts (grammar.Ref grammar.Suffix) c.suffixes.rest.now ≡ true = cc in
-    more_passed_on _ _ _ _ _ _ _ _ c.from_residual.ensures.1 (fails_from _ (λ k z h. past_fault c.suffixes.invariant.past.2 q h) c.in_err-longer.ensures.reads)
+    passed_on _ _ _ _ _ _ _ c.from_residual.ensures.1 (fails_from _ (λ k z h. past_fault c.suffixes.invariant.past q h) c.in_err-suffix.ensures.reads)
 
 pub suffixes-suffixes-preserved : goal.suffixes-suffixes-preserved
 suffixes-suffixes-preserved t c =
     let q : starts (grammar.Ref grammar.Suffix) c.suffixes.rest.now ≡ true = cc in
     record {
-      past = (_, row_more _ _ c.suffixes.invariant.past.0 c.in_ok-longer.ensures.reads.0 _ c.in_ok-longer.ensures.reads.1 c.suffixes.invariant.past.1, past_step c.suffixes.invariant.past.2 q c.in_ok-longer.ensures.reads.2);
-      grade = c.in_ok-longer.ensures.grade;
-      shorter = omega (arith, c.suffixes.invariant.shorter, c.in_ok-longer.ensures.shorter);
+      past = past_same (past_step c.suffixes.invariant.past q c.in_ok-suffix.ensures.reads) (row_push (suffix_tree shape) _ _ c.in_ok-suffix.suffix (rw (sym c.into_inner.ensures) c.in_ok-push.ensures.ok));
+      shorter = omega (arith, c.suffixes.invariant.shorter, c.in_ok-suffix.ensures.shorter);
     }
 
 pub suffixes-returns-clause-reads : goal.suffixes-returns-clause-reads
 suffixes-returns-clause-reads t c =
     let q : starts (grammar.Ref grammar.Suffix) c.suffixes.rest.now ≡ false = cc in
-    (c.suffixes.invariant.past.0, c.suffixes.invariant.past.1, past_stop c.suffixes.invariant.past.2 q)
+    past_stop c.suffixes.invariant.past q
 
 pub suffix-returns-then-next_is-clause-reads : goal.suffix-returns-then-next_is-clause-reads
 suffix-returns-then-next_is-clause-reads t c =
     let q : next_in (class.LeftBracket ∷ []) c.args.tokens.now ≡ true = cc in
-    (_, (ap (λ (s : Shape). s.row) c.in_ok-element.ensures), r_ref (r_left q c.in_ok-at.ensures.reads))
+    r_ref (r_left q c.in_ok-element.ensures.reads)
 
 pub suffix-returns-clause-reads : goal.suffix-returns-clause-reads
 suffix-returns-clause-reads t c =
     let q : next_in (class.LeftBracket ∷ []) c.args.tokens.now ≡ false = cc in
-    (_, (ap (λ (s : Shape). s.row) c.in_ok-member.ensures), r_ref (r_right q c.in_ok-at-2.ensures.reads))
+    r_ref (r_right q c.in_ok-member.ensures.reads)
 
-pub suffix-returns-in_err-at-clause-reads : goal.suffix-returns-in_err-at-clause-reads
-suffix-returns-in_err-at-clause-reads t c =
+pub suffix-returns-in_err-element-clause-reads : goal.suffix-returns-in_err-element-clause-reads
+suffix-returns-in_err-element-clause-reads t c =
     let q : next_in (class.LeftBracket ∷ []) c.args.tokens.now ≡ true = cc in
-    more_passed_on _ _ _ _ _ _ _ _ c.from_residual.ensures.1 (fails_from _ (λ k z h. f_ref (r_left q h)) c.in_err-at.ensures.reads)
+    passed_on _ _ _ _ _ _ _ c.from_residual.ensures.1 (fails_from _ (λ k z h. f_ref (r_left q h)) c.in_err-element.ensures.reads)
 
-pub suffix-returns-in_err-at-2-clause-reads : goal.suffix-returns-in_err-at-2-clause-reads
-suffix-returns-in_err-at-2-clause-reads t c =
+pub suffix-returns-in_err-member-clause-reads : goal.suffix-returns-in_err-member-clause-reads
+suffix-returns-in_err-member-clause-reads t c =
     let q : next_in (class.LeftBracket ∷ []) c.args.tokens.now ≡ false = cc in
-    more_passed_on _ _ _ _ _ _ _ _ c.from_residual-in_err-at-2.ensures.1 (fails_from _ (λ k z h. f_ref (r_right q h)) c.in_err-at-2.ensures.reads)
+    passed_on _ _ _ _ _ _ _ c.from_residual-in_err-member.ensures.1 (fails_from _ (λ k z h. f_ref (r_right q h)) c.in_err-member.ensures.reads)
 
 pub subscript-returns-clause-reads : goal.subscript-returns-clause-reads
 subscript-returns-clause-reads t c =
-    r_seq c.in_ok-at.ensures.reads (r_end (r_deeper c.in_ok-index.ensures.reads) c.in_ok-rest.ensures.reads)
+    r_same (r_seq c.in_ok-at.ensures.reads (r_end (r_deeper c.in_ok-index.ensures.reads) c.in_ok-rest.ensures.reads)) (sym c.in_ok-subscript.ensures)
 
 pub subscript-returns-in_err-at-clause-reads : goal.subscript-returns-in_err-at-clause-reads
 subscript-returns-in_err-at-clause-reads t c =
-    passed_on _ _ _ _ _ _ _ c.from_residual.ensures.1 (fails_from _ (λ k z h. f_first h) c.in_err-at.ensures.reads)
+    stop_passed_on _ _ _ _ _ _ _ c.from_residual.ensures.1 (stops_from _ (λ k z h. f_first h) c.in_err-at.ensures.reads)
 
 pub subscript-returns-in_err-index-clause-reads : goal.subscript-returns-in_err-index-clause-reads
 subscript-returns-in_err-index-clause-reads t c =
@@ -386,4 +389,4 @@ subscript-returns-in_err-index-clause-reads t c =
 
 pub subscript-returns-in_err-rest-clause-reads : goal.subscript-returns-in_err-rest-clause-reads
 subscript-returns-in_err-rest-clause-reads t c =
-    passed_on _ _ _ _ _ _ _ c.from_residual-in_err-rest.ensures.1 (fails_from _ (λ k z h. f_second c.in_ok-at.ensures.reads (f_second (r_deeper c.in_ok-index.ensures.reads) h)) c.in_err-rest.ensures.reads)
+    stop_passed_on _ _ _ _ _ _ _ c.from_residual-in_err-rest.ensures.1 (stops_from _ (λ k z h. f_second c.in_ok-at.ensures.reads (f_second (r_deeper c.in_ok-index.ensures.reads) h)) c.in_err-rest.ensures.reads)

@@ -2,7 +2,7 @@ use Rattle.std.proofs.Common.{◌+◌, ◌-◌, ◌*◌, ◌≡◌, ◌≤◌, l
 use Rattle.c_tree.specs.declared.token.Class.TheVariants as class
 use Rattle.c_grammar.specs.Grammar.{Ref, Word, Kind, Suffix, Expression, word, operators, operand, ◌⊳◌}
 use Rattle.c_grammar.specs.Meaning.{Forest, limit, ◌+++◌}
-use Rattle.c_grammar.specs.Trees.{shape, grade_of, each, link_row, expression_tree}
+use Rattle.c_grammar.specs.Trees.{shape, each, link_row, suffix_tree, expression_tree}
 use Rattle.c_grammar.proofs.Steps.{Past}
 use Rattle.c_descent.specs.More.{FirstOf}
 use Rattle.c_descent.proofs.expression.+tower.Given as goal
@@ -47,16 +47,19 @@ abbrev pub decreases-inside : goal.decreases-inside
 decreases-inside l = (limit + 1 - l.level) * 64 + 3
 
 abbrev pub decreases-parenthesis : goal.decreases-parenthesis
-decreases-parenthesis l = (limit + 1 - l.level) * 64 + 6
+decreases-parenthesis l = (limit + 1 - l.level) * 64 + 7
 
 abbrev pub decreases-cast : goal.decreases-cast
 decreases-cast l = (limit + 1 - l.level) * 64 + 5
 
 abbrev pub decreases-group : goal.decreases-group
-decreases-group l = (limit + 1 - l.level) * 64 + 5
+decreases-group l = (limit + 1 - l.level) * 64 + 6
 
 abbrev pub decreases-prefixed : goal.decreases-prefixed
 decreases-prefixed l = (limit + 1 - l.level) * 64 + 6
+
+abbrev pub decreases-postfix : goal.decreases-postfix
+decreases-postfix l = (limit + 1 - l.level) * 64 + 5
 
 abbrev pub decreases-suffixes : goal.decreases-suffixes
 decreases-suffixes l = (limit + 1 - l.level) * 64 + 4
@@ -91,8 +94,7 @@ decreases-more_arguments-arguments l = length l.rest
 abbrev pub invariant-suffixes-suffixes : goal.invariant-suffixes-suffixes
 invariant-suffixes-suffixes l =
     record {
-      past : (f : Forest) × ((shape l.base).row ≡ (shape l.initial.base).row +++ f) × Past l.level (Ref Suffix) l.initial.rest l.rest f;
-      grade : grade_of l.base ≡ 0;
+      past : Past l.level (Ref Suffix) l.initial.rest l.rest (each (suffix_tree shape) l.suffixes);
       shorter : length l.rest ≤ length l.initial.rest;
     }
 

@@ -1,18 +1,18 @@
 use Rattle.c_tree.specs.declared.token.Class.TheVariants as class
 use Rattle.c_tree.specs.declared.token.Call.TheVariants as call
 use Rattle.c_grammar.specs.Grammar.{◌⊳◌, placed, word}
-use Rattle.c_grammar.proofs.Steps.{passed_on, fails_from, f_first, f_ref, f_second, r_deeper, r_end, r_ref}
+use Rattle.c_grammar.proofs.Steps.{passed_on, stop_passed_on, fails_from, stops_from, f_first, f_ref, f_second, r_deeper, r_end, r_ref}
 use Rattle.c_descent.proofs.CallSteps.{f_before, f_more, r_more}
 use Rattle.c_descent.proofs.message.get_count_call.Goals as goal
 
 pub returns-in_err-at-clause-reads : goal.returns-in_err-at-clause-reads
-returns-in_err-at-clause-reads c = passed_on _ _ _ _ _ _ _ c.from_residual.ensures.1 (fails_from _ (λ k z h. f_ref (f_before (placed (class.Mpi call.GetCount) ⊳ word class.LeftParen) _ h)) c.in_err-at.ensures.reads)
+returns-in_err-at-clause-reads c = stop_passed_on _ _ _ _ _ _ _ c.from_residual.ensures.1 (stops_from _ (λ k z h. f_ref (f_before (placed (class.Mpi call.GetCount) ⊳ word class.LeftParen) _ h)) c.in_err-at.ensures.reads)
 
 pub returns-in_err-status-clause-reads : goal.returns-in_err-status-clause-reads
 returns-in_err-status-clause-reads c = passed_on _ _ _ _ _ _ _ c.from_residual-in_err-status.ensures.1 (fails_from _ (λ k z h. f_ref (f_more (placed (class.Mpi call.GetCount) ⊳ word class.LeftParen) c.in_ok-at.ensures.reads (f_first (r_deeper (h))))) c.in_err-status.ensures.reads)
 
 pub returns-in_err-rest-clause-reads : goal.returns-in_err-rest-clause-reads
-returns-in_err-rest-clause-reads c = passed_on _ _ _ _ _ _ _ c.from_residual-in_err-rest.ensures.1 (fails_from _ (λ k z h. f_ref (f_more (placed (class.Mpi call.GetCount) ⊳ word class.LeftParen) c.in_ok-at.ensures.reads (f_second (r_deeper c.in_ok-status.ensures.reads) h))) c.in_err-rest.ensures.reads)
+returns-in_err-rest-clause-reads c = stop_passed_on _ _ _ _ _ _ _ c.from_residual-in_err-rest.ensures.1 (stops_from _ (λ k z h. f_ref (f_more (placed (class.Mpi call.GetCount) ⊳ word class.LeftParen) c.in_ok-at.ensures.reads (f_second (r_deeper c.in_ok-status.ensures.reads) h))) c.in_err-rest.ensures.reads)
 
 pub returns-clause-reads : goal.returns-clause-reads
 returns-clause-reads c = rw c.into_inner.ensures (r_ref (r_more (placed (class.Mpi call.GetCount) ⊳ word class.LeftParen) c.in_ok-at.ensures.reads (r_end (r_deeper c.in_ok-status.ensures.reads) c.in_ok-rest.ensures.reads)))

@@ -11,13 +11,13 @@ use Rattle.c_grammar.proofs.Views.{row_block, row_for}
 use Rattle.c_descent.proofs.StatementChoices.{at_block, at_do, at_for, at_while, no_holder, passing}
 use Rattle.c_descent.proofs.StatementChains.{chain_end, chain_start, chain_step}
 use Rattle.c_descent.proofs.StatementShapes.{do_shape, if_shape, while_shape}
-use Rattle.c_grammar.proofs.Steps.{fails_from, r_seq, r_end, r_same, r_ref, f_ref, f_first, f_second, r_left, r_right, r_no, r_yes, r_deeper, past_start, past_step, past_stop, past_fault}
+use Rattle.c_grammar.proofs.Steps.{fails_from, stops_from, r_seq, r_end, r_same, r_ref, f_ref, f_first, f_second, r_left, r_right, r_no, r_yes, r_deeper, past_start, past_step, past_stop, past_fault}
 use Rattle.c_descent.proofs.statement.+statements.Goals as goal
 
 pub block-returns-in_err-at-clause-reads : goal.block-returns-in_err-at-clause-reads
 block-returns-in_err-at-clause-reads t c =
     let w = err_from_is_err_and c.from_residual.result c.from_residual.ensures.1 in
-    rw (w.1, w.2) (fails_from _ (λ k z h. f_ref (f_first h)) c.in_err-at.ensures.reads)
+    rw (w.1, w.2) (stops_from _ (λ k z h. f_ref (f_first h)) c.in_err-at.ensures.reads)
 
 pub block-returns-in_err-item-clause-reads : goal.block-returns-in_err-item-clause-reads
 block-returns-in_err-item-clause-reads t c =
@@ -41,7 +41,7 @@ pub block-returns-in_err-rest-clause-reads : goal.block-returns-in_err-rest-clau
 block-returns-in_err-rest-clause-reads t c =
     let q : starts (Ref BlockItem) c.items.rest.now ≡ false = cc in
     let w = err_from_is_err_and c.from_residual-in_err-rest.result c.from_residual-in_err-rest.ensures.1 in
-    rw (w.1, w.2) (fails_from _ (λ k z h. f_ref (f_second c.in_ok-at.ensures.reads (f_second (past_stop c.items.invariant.past q) h))) c.in_err-rest.ensures.reads)
+    rw (w.1, w.2) (stops_from _ (λ k z h. f_ref (f_second c.in_ok-at.ensures.reads (f_second (past_stop c.items.invariant.past q) h))) c.in_err-rest.ensures.reads)
 
 pub block-returns-clause-reads : goal.block-returns-clause-reads
 block-returns-clause-reads t c =
@@ -58,7 +58,7 @@ pub block_item-returns-in_err-variables-2-clause-reads : goal.block_item-returns
 block_item-returns-in_err-variables-2-clause-reads t c =
     let q : starts (Ref TypeSpecifier) c.args.tokens.now ≡ true = cc in
     let w = err_from_is_err_and c.from_residual-in_err-variables-2.result c.from_residual-in_err-variables-2.ensures.1 in
-    rw (w.1, w.2) (fails_from _ (λ k z h. f_ref (r_left q (f_second c.in_ok-variables.ensures.reads h))) c.in_err-variables-2.ensures.reads)
+    rw (w.1, w.2) (stops_from _ (λ k z h. f_ref (r_left q (f_second c.in_ok-variables.ensures.reads h))) c.in_err-variables-2.ensures.reads)
 
 pub block_item-returns-then-at_type-clause-reads : goal.block_item-returns-then-at_type-clause-reads
 block_item-returns-then-at_type-clause-reads t c =
@@ -85,7 +85,7 @@ pub statement-returns-in_err-at-clause-reads : goal.statement-returns-in_err-at-
 statement-returns-in_err-at-clause-reads t c =
     let q : next_in (class.If ∷ []) c.args.tokens.now ≡ true = cc in
     let w = err_from_is_err_and c.from_residual.result c.from_residual.ensures.1 in
-    rw (w.1, w.2) (fails_from _ (λ k z h. f_ref (r_left q (f_ref (f_first h)))) c.in_err-at.ensures.reads)
+    rw (w.1, w.2) (stops_from _ (λ k z h. f_ref (r_left q (f_ref (f_first h)))) c.in_err-at.ensures.reads)
 
 pub statement-returns-in_err-test-clause-reads : goal.statement-returns-in_err-test-clause-reads
 statement-returns-in_err-test-clause-reads t c =
@@ -123,7 +123,7 @@ pub else_part-returns-in_err-after-clause-reads : goal.else_part-returns-in_err-
 else_part-returns-in_err-after-clause-reads t c =
     let p : next_in (class.Else ∷ []) c.arms.rest.now ≡ true = cc in
     let w = err_from_is_err_and c.from_residual.result c.from_residual.ensures.1 in
-    rw (w.1, w.2) (fails_from _ (λ k z h. c.arms.invariant.past.fails k z (f_ref (r_yes p (f_first h)))) c.in_err-after.ensures.reads)
+    rw (w.1, w.2) (stops_from _ (λ k z h. c.arms.invariant.past.fails k z (f_ref (r_yes p (f_first h)))) c.in_err-after.ensures.reads)
 
 pub else_part-returns-in_err-last-clause-reads : goal.else_part-returns-in_err-last-clause-reads
 else_part-returns-in_err-last-clause-reads t c =
@@ -143,7 +143,7 @@ else_part-returns-in_err-after-2-clause-reads t c =
     let p : next_in (class.Else ∷ []) c.arms.rest.now ≡ true = cc in
     let q : next_in (class.If ∷ []) c.in_ok-after.after.now ≡ true = cc in
     let w = err_from_is_err_and c.from_residual-in_err-after-2.result c.from_residual-in_err-after-2.ensures.1 in
-    rw (w.1, w.2) (fails_from _ (λ k z h. c.arms.invariant.past.fails k z (f_ref (r_yes p (f_second c.in_ok-after.ensures.reads (r_left q (f_first h)))))) c.in_err-after-2.ensures.reads)
+    rw (w.1, w.2) (stops_from _ (λ k z h. c.arms.invariant.past.fails k z (f_ref (r_yes p (f_second c.in_ok-after.ensures.reads (r_left q (f_first h)))))) c.in_err-after-2.ensures.reads)
 
 pub else_part-returns-in_err-test-clause-reads : goal.else_part-returns-in_err-test-clause-reads
 else_part-returns-in_err-test-clause-reads t c =
@@ -217,7 +217,7 @@ plain_statement-returns-clause-reads t c =
 pub while_statement-returns-in_err-at-clause-reads : goal.while_statement-returns-in_err-at-clause-reads
 while_statement-returns-in_err-at-clause-reads t c q =
     let w = err_from_is_err_and c.from_residual.result c.from_residual.ensures.1 in
-    rw (w.1, w.2) (fails_from _ (λ k z h. f_ref (at_while q (f_ref (f_first h)))) c.in_err-at.ensures.reads)
+    rw (w.1, w.2) (stops_from _ (λ k z h. f_ref (at_while q (f_ref (f_first h)))) c.in_err-at.ensures.reads)
 
 pub while_statement-returns-in_err-test-clause-reads : goal.while_statement-returns-in_err-test-clause-reads
 while_statement-returns-in_err-test-clause-reads t c q =
@@ -236,7 +236,7 @@ while_statement-returns-clause-reads t c q =
 pub do_statement-returns-in_err-at-clause-reads : goal.do_statement-returns-in_err-at-clause-reads
 do_statement-returns-in_err-at-clause-reads t c q =
     let w = err_from_is_err_and c.from_residual.result c.from_residual.ensures.1 in
-    rw (w.1, w.2) (fails_from _ (λ k z h. f_ref (at_do q (f_ref (f_first h)))) c.in_err-at.ensures.reads)
+    rw (w.1, w.2) (stops_from _ (λ k z h. f_ref (at_do q (f_ref (f_first h)))) c.in_err-at.ensures.reads)
 
 pub do_statement-returns-in_err-body-clause-reads : goal.do_statement-returns-in_err-body-clause-reads
 do_statement-returns-in_err-body-clause-reads t c q =
@@ -255,7 +255,7 @@ do_statement-returns-clause-reads t c q =
 pub for_statement-returns-in_err-at-clause-reads : goal.for_statement-returns-in_err-at-clause-reads
 for_statement-returns-in_err-at-clause-reads t c q =
     let w = err_from_is_err_and c.from_residual.result c.from_residual.ensures.1 in
-    rw (w.1, w.2) (fails_from _ (λ k z h. f_ref (at_for q (f_ref (f_first h)))) c.in_err-at.ensures.reads)
+    rw (w.1, w.2) (stops_from _ (λ k z h. f_ref (at_for q (f_ref (f_first h)))) c.in_err-at.ensures.reads)
 
 pub for_statement-returns-in_err-clauses-clause-reads : goal.for_statement-returns-in_err-clauses-clause-reads
 for_statement-returns-in_err-clauses-clause-reads t c q =

@@ -3,7 +3,7 @@ use Rattle.c_grammar.specs.Grammar as grammar
 use Rattle.c_grammar.specs.Grammar.{Ref}
 use Rattle.c_grammar.specs.Meaning.{starts}
 use Rattle.c_grammar.specs.Trees.{members_tree}
-use Rattle.c_grammar.proofs.Steps.{passed_on, fails_from, past_fault, past_stop, r_same, r_seq, r_end, f_first, f_second}
+use Rattle.c_grammar.proofs.Steps.{passed_on, stop_passed_on, fails_from, stops_from, past_fault, past_stop, r_same, r_seq, r_end, f_first, f_second}
 use Rattle.c_descent.proofs.ItemRows.{grown_start, grown_step, one_and_more}
 use Rattle.c_descent.proofs.structs.members_to_end.Goals as goal
 
@@ -29,12 +29,12 @@ more-preserved c =
 pub returns-in_err-rest-clause-reads : goal.returns-in_err-rest-clause-reads
 returns-in_err-rest-clause-reads c =
     let q : starts (Ref grammar.MemberDeclaration) c.more.rest.now ≡ false = cc in
-    passed_on _ _ _ _ _ _ _ c.from_residual-in_err-rest.ensures.1 (fails_from _ (λ k z h. f_second c.in_ok-first.ensures.reads (f_second (past_stop c.more.invariant.grown.past q) (f_first h))) c.in_err-rest.ensures.reads)
+    stop_passed_on _ _ _ _ _ _ _ c.from_residual-in_err-rest.ensures.1 (stops_from _ (λ k z h. f_second c.in_ok-first.ensures.reads (f_second (past_stop c.more.invariant.grown.past q) (f_first h))) c.in_err-rest.ensures.reads)
 
 pub returns-in_err-rest-2-clause-reads : goal.returns-in_err-rest-2-clause-reads
 returns-in_err-rest-2-clause-reads c =
     let q : starts (Ref grammar.MemberDeclaration) c.more.rest.now ≡ false = cc in
-    passed_on _ _ _ _ _ _ _ c.from_residual-in_err-rest-2.ensures.1 (fails_from _ (λ k z h. f_second c.in_ok-first.ensures.reads (f_second (past_stop c.more.invariant.grown.past q) (f_second c.in_ok-rest.ensures.reads h))) c.in_err-rest-2.ensures.reads)
+    stop_passed_on _ _ _ _ _ _ _ c.from_residual-in_err-rest-2.ensures.1 (stops_from _ (λ k z h. f_second c.in_ok-first.ensures.reads (f_second (past_stop c.more.invariant.grown.past q) (f_second c.in_ok-rest.ensures.reads h))) c.in_err-rest-2.ensures.reads)
 
 pub returns-clause-reads : goal.returns-clause-reads
 returns-clause-reads c =

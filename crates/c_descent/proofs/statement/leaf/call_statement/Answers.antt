@@ -2,7 +2,7 @@ use Rattle.std.proofs.Common.{sym}
 use Rattle.std.proofs.lemmas.Result.{err_from_is_err_and}
 use Rattle.c_grammar.proofs.Views.{row_mpi}
 use Rattle.c_descent.proofs.StatementChoices.{at_call}
-use Rattle.c_grammar.proofs.Steps.{fails_from, r_end, r_same, r_ref, f_ref, f_first, f_second}
+use Rattle.c_grammar.proofs.Steps.{fails_from, stops_from, r_end, r_same, r_ref, f_ref, f_first, f_second}
 use Rattle.c_descent.proofs.statement.leaf.call_statement.Goals as goal
 
 pub returns-in_err-call-clause-reads : goal.returns-in_err-call-clause-reads
@@ -13,7 +13,7 @@ returns-in_err-call-clause-reads c q =
 pub returns-in_err-call-2-clause-reads : goal.returns-in_err-call-2-clause-reads
 returns-in_err-call-2-clause-reads c q =
     let w = err_from_is_err_and c.from_residual-in_err-call-2.result c.from_residual-in_err-call-2.ensures.1 in
-    rw (w.1, w.2) (fails_from _ (λ k z h. f_ref (at_call q (f_second c.in_ok-call.ensures.reads h))) c.in_err-call-2.ensures.reads)
+    rw (w.1, w.2) (stops_from _ (λ k z h. f_ref (at_call q (f_second c.in_ok-call.ensures.reads h))) c.in_err-call-2.ensures.reads)
 
 pub returns-clause-reads : goal.returns-clause-reads
 returns-clause-reads c q =

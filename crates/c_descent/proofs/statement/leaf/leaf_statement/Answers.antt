@@ -2,23 +2,24 @@ use Rattle.std.proofs.Common.{◌≡◌, true, false, [], ◌∷◌}
 use Rattle.c_tree.specs.declared.token.Class.TheVariants as class
 use Rattle.c_grammar.specs.Grammar.{Mark, MpiCall}
 use Rattle.c_grammar.specs.Meaning.{begins, next_in}
+use Rattle.c_grammar.proofs.Steps.{stop_passed_on}
 use Rattle.c_descent.proofs.StatementChoices.{no_leaf}
 use Rattle.c_descent.proofs.statement.leaf.leaf_statement.Goals as goal
 
 pub returns-then-next_is-clause-reads : goal.returns-then-next_is-clause-reads
 returns-then-next_is-clause-reads c q =
     let p : next_in (class.Semicolon ∷ []) c.args.tokens.now ≡ true = cc in
-    c.empty_statement.ensures.reads p
+    c.in_ok-leaf.ensures.reads p
 
 pub returns-then-next_is-2-clause-reads : goal.returns-then-next_is-2-clause-reads
 returns-then-next_is-2-clause-reads c q =
     let p : next_in (class.Break ∷ []) c.args.tokens.now ≡ true = cc in
-    c.break_statement.ensures.reads p
+    c.in_ok-leaf-2.ensures.reads p
 
 pub returns-then-next_is-3-clause-reads : goal.returns-then-next_is-3-clause-reads
 returns-then-next_is-3-clause-reads c q =
     let p : next_in (class.Continue ∷ []) c.args.tokens.now ≡ true = cc in
-    c.continue_statement.ensures.reads p
+    c.in_ok-leaf-3.ensures.reads p
 
 pub returns-then-next_is-4-clause-reads : goal.returns-then-next_is-4-clause-reads
 returns-then-next_is-4-clause-reads c q =
@@ -38,12 +39,32 @@ returns-then-next_is-6-clause-reads c q =
 pub returns-then-at_mark-clause-reads : goal.returns-then-at_mark-clause-reads
 returns-then-at_mark-clause-reads c q =
     let p : next_in (begins Mark) c.args.tokens.now ≡ true = cc in
-    c.mark_statement.ensures.reads p
+    c.in_ok-leaf-4.ensures.reads p
 
 pub returns-then-at_mpi_call-clause-reads : goal.returns-then-at_mpi_call-clause-reads
 returns-then-at_mpi_call-clause-reads c q =
     let p : next_in (begins MpiCall) c.args.tokens.now ≡ true = cc in
     c.call_statement.ensures.reads p
+
+pub returns-in_err-leaf-clause-reads : goal.returns-in_err-leaf-clause-reads
+returns-in_err-leaf-clause-reads c q =
+    let p : next_in (class.Semicolon ∷ []) c.args.tokens.now ≡ true = cc in
+    stop_passed_on _ _ _ _ _ _ _ c.from_residual.ensures.1 (c.in_err-leaf.ensures.reads p)
+
+pub returns-in_err-leaf-2-clause-reads : goal.returns-in_err-leaf-2-clause-reads
+returns-in_err-leaf-2-clause-reads c q =
+    let p : next_in (class.Break ∷ []) c.args.tokens.now ≡ true = cc in
+    stop_passed_on _ _ _ _ _ _ _ c.from_residual-in_err-leaf-2.ensures.1 (c.in_err-leaf-2.ensures.reads p)
+
+pub returns-in_err-leaf-3-clause-reads : goal.returns-in_err-leaf-3-clause-reads
+returns-in_err-leaf-3-clause-reads c q =
+    let p : next_in (class.Continue ∷ []) c.args.tokens.now ≡ true = cc in
+    stop_passed_on _ _ _ _ _ _ _ c.from_residual-in_err-leaf-3.ensures.1 (c.in_err-leaf-3.ensures.reads p)
+
+pub returns-in_err-leaf-4-clause-reads : goal.returns-in_err-leaf-4-clause-reads
+returns-in_err-leaf-4-clause-reads c q =
+    let p : next_in (begins Mark) c.args.tokens.now ≡ true = cc in
+    stop_passed_on _ _ _ _ _ _ _ c.from_residual-in_err-leaf-4.ensures.1 (c.in_err-leaf-4.ensures.reads p)
 
 pub returns-clause-reads : goal.returns-clause-reads
 returns-clause-reads c q =

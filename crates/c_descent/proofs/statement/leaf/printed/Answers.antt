@@ -3,14 +3,14 @@ use Rattle.std.proofs.lemmas.Result.{err_from_is_err_and}
 use Rattle.c_tree.specs.declared.token.Class.TheVariants as class
 use Rattle.c_grammar.specs.Meaning.{next_in}
 use Rattle.c_grammar.proofs.Grades.{each_push}
-use Rattle.c_grammar.proofs.Steps.{fails_from, r_seq, f_first, f_second, past_start, past_step, past_stop, past_fault}
+use Rattle.c_grammar.proofs.Steps.{fails_from, stops_from, r_seq, f_first, f_second, past_start, past_step, past_stop, past_fault}
 use Rattle.c_descent.proofs.statement.leaf.printed.Goals as goal
 
 pub returns-in_err-after-clause-reads : goal.returns-in_err-after-clause-reads
 returns-in_err-after-clause-reads c =
     let q : next_in (class.Comma ∷ []) c.arguments.rest.now ≡ true = cc in
     let w = err_from_is_err_and c.from_residual.result c.from_residual.ensures.1 in
-    rw (w.1, w.2) (fails_from _ (λ k z h. past_fault c.arguments.invariant.past q (f_first h)) c.in_err-after.ensures.reads)
+    rw (w.1, w.2) (stops_from _ (λ k z h. past_fault c.arguments.invariant.past q (f_first h)) c.in_err-after.ensures.reads)
 
 pub returns-in_err-argument-clause-reads : goal.returns-in_err-argument-clause-reads
 returns-in_err-argument-clause-reads c =
