@@ -1,5 +1,5 @@
 -- A statement of a tree, by what its parts are found to be.
-use Rattle.std.proofs.Common.{◌≡◌, ℕ, suc, ◌+◌, ◌<◌, Bool, true, false, List, [], ◌∷◌, ◌++◌, map, length, drop, get_or, drop-cons, add-one, append_assoc, Option, Some, None, refl, ap, sym, ◌∙◌}
+use Rattle.std.proofs.Common.{◌≡◌, ℕ, ◌+◌, ◌<◌, Bool, true, false, List, [], ◌∷◌, ◌++◌, map, length, drop, get_or, append_assoc, Option, Some, None, refl, ap, sym, ◌∙◌}
 use Rattle.c_tree.specs.declared.tree.Block.{Block}
 use Rattle.c_tree.specs.declared.tree.BlockItem.{BlockItem}
 use Rattle.c_tree.specs.declared.tree.BlockItem.TheVariants as item
@@ -20,24 +20,15 @@ use Rattle.c_rules.proofs.Gathered.{joined, joined_more}
 use Rattle.c_rules.specs.Scope.{Bytes, Scope}
 use Rattle.c_check.specs.Statement.{Walk, Node, statement_node, walked, walk_as, walk_all, scoped, one, later_arm, walked_guarded, walked_arm, walked_later, block_item, node_item, branches, node_arm, walked_items, walked_branches}
 use Rattle.c_check.specs.Program.{body_item}
+use Rattle.c_check.proofs.Nodes.{map_same, drop_next}
 use Rattle.c_kernel.specs.declared.program.Stmt.{Stmt as Typed}
 use Rattle.c_kernel.specs.declared.program.Stmt.TheVariants as typed
-
-map_same : {A B : Type 0} (f g : A → B) → ((x : A) → f x ≡ g x) → (xs : List A) → map f xs ≡ map g xs
-map_same f g e [] = refl
-map_same f g e (x ∷ xs) = ap (λ y. y ∷ map f xs) (e x) ∙ ap (λ ys. g x ∷ ys) (map_same f g e xs)
 
 item_cases : (P : BlockItem Stmt → Type 0) → ((d : Declaration) → P (item.Declaration d)) → ((x : Stmt) → P (item.Statement x)) → (x : BlockItem Stmt) → P x
 item_cases P d w (item.Declaration x) = d x
 item_cases P d w (item.Statement x) = w x
 
 -- ---- one more of a list
-
-drop_next : {A : Type 0} (xs : List A) (i : ℕ) (x : A) → i < length xs → x ≡ get_or xs i x → drop i xs ≡ x ∷ drop (i + 1) xs
-drop_next xs i x h e =
-    let a : drop i xs ≡ get_or xs i x ∷ drop (suc i) xs = drop-cons xs i x h in
-    let b : i + 1 ≡ suc i = add-one i in
-    cc
 
 pub step_found : {A : Type 0} (w : Walk A) (ws : List (Walk A)) (s t : Scope) (all all' : Option (List A)) (x : Option A) (whole : Option (List A)) → joined all (walk_all (w ∷ ws) s).judged.found ≡ whole → all' ≡ gathered all x → x ≡ (w s).judged.found → t ≡ (w s).scope → joined all' (walk_all ws t).judged.found ≡ whole
 step_found w ws s t all all' x whole e e' h h' =

@@ -1,409 +1,141 @@
--- Small programs, and the rules that each breaks.
-use Rattle.std.proofs.Common.{◌≡◌, refl, [], ◌∷◌, Some, None, true, false, codes}
+-- Small programs: their typed forms, and what is said of calls and of malloc.
+use Rattle.std.proofs.Common.{◌≡◌, refl, [], ◌∷◌, pos, negsuc, Some, None, false, codes}
 use Rattle.c_tree.specs.declared.tree.Item.TheVariants as item
-use Rattle.c_tree.specs.declared.tree.Bound.TheVariants as bound
 use Rattle.c_tree.specs.declared.tree.TypeSpecifier.TheVariants as specifier
 use Rattle.c_tree.specs.declared.tree.PlainType.TheVariants as plain
 use Rattle.c_tree.specs.declared.tree.BlockItem.TheVariants as block_item
 use Rattle.c_tree.specs.declared.tree.ForStart.TheVariants as for_start
 use Rattle.c_tree.specs.declared.tree.SimpleStatement.TheVariants as simple_form
-use Rattle.c_tree.specs.declared.tree.Step.TheVariants as step
+use Rattle.c_tree.specs.declared.tree.MpiCall.TheVariants as mpi
+use Rattle.c_tree.specs.declared.tree.Status.TheVariants as status
+use Rattle.c_tree.specs.declared.tree.Constant.TheVariants as constant
+use Rattle.c_tree.specs.declared.tree.Access.TheVariants as access
+use Rattle.c_tree.specs.declared.tree.MemberName.TheVariants as member_name
+use Rattle.c_tree.specs.declared.tree.Primary.TheVariants as primary
+use Rattle.c_tree.specs.declared.tree.Suffix.TheVariants as suffix
 use Rattle.c_tree.specs.declared.token.Operator.TheVariants as operator
+use Rattle.c_tree.specs.declared.token.Datatype.TheVariants as types
 use Rattle.c_tree.specs.declared.kind.Kind.TheVariants as kind
-use Rattle.c_check.proofs.SmallTrees.{EachRule, judging, named, figure, parameter, heading, variable, declaration, number, character, name, call, size, group, cast, prefix, link, chain, choice, block, empty, break, continue, compound, arm, branch, while, do_while, for, return, print, marked, simple, main_at, broken, fault}
+use Rattle.c_kernel.specs.declared.types.IntegerType.TheVariants as integer
+use Rattle.c_kernel.specs.declared.program.Stmt.TheVariants as typed
+use Rattle.c_kernel.specs.declared.program.Action.TheVariants as action
+use Rattle.c_kernel.specs.declared.program.Piece.TheVariants as piece
+use Rattle.c_kernel.specs.declared.program.Expr.TheVariants as term
+use Rattle.c_kernel.specs.declared.program.Scalar.TheVariants as scalar
+use Rattle.c_kernel.specs.declared.program.Selection.TheVariants as selection
+use Rattle.c_kernel.specs.declared.program.BinaryOperator.TheVariants as binary
+use Rattle.c_kernel.specs.declared.program.Arithmetic.TheVariants as arithmetic_operator
+use Rattle.c_kernel.specs.declared.program.Comparison.TheVariants as compare
+use Rattle.c_kernel.specs.declared.program.Way.TheVariants as way
+use Rattle.mpi_words.specs.declared.message.Datatype.TheVariants as datatype_kind
+use Rattle.c_kernel.specs.declared.program.MpiFunction.TheVariants as function
+use Rattle.c_check.proofs.SmallTrees.{EachRule, judging, named, figure, parameter, heading, declared, members, variable, declaration, path, number, character, word, name, call, allocated, size, group, cast, prefix, link, chain, block, empty, compound, arm, branch, do_while, for, return, print, freed, datatype, buffer, called, simple, main_at, fault, broken, whole, accepted, char, int, long, structure, to, single, object, program_with, program_of, zero, mpi_call, three, within, behind, read, followed, c, i, l, bond, sets, two}
 
--- ---- accepted
+-- ---- typed forms: conversions
 
--- int main(void){return 0;}
-least : broken ((main_at 0 ((block_item.Statement (return 15 (Some (number (figure 22 0 false))))) ∷ [])) ∷ []) 25 ≡ []
+-- int main(void){char c;int i;long l;l=i+c-l;}
+mixed_chain : whole ((main_at 0 ((block_item.Declaration (declaration (specifier.Plain 15 plain.Char) ((variable 0 (named 20 (codes "c")) [] None) ∷ []))) ∷ (block_item.Declaration (declaration (specifier.Plain 22 plain.Int) ((variable 0 (named 26 (codes "i")) [] None) ∷ []))) ∷ (block_item.Declaration (declaration (specifier.Plain 28 plain.Long) ((variable 0 (named 33 (codes "l")) [] None) ∷ []))) ∷ (block_item.Statement (simple (simple_form.Assign (name (named 35 (codes "l"))) 36 None (chain (name (named 37 (codes "i"))) ((link operator.Plus (name (named 39 (codes "c")))) ∷ (link operator.Minus (name (named 41 (codes "l")))) ∷ []))))) ∷ [])) ∷ []) 44 ≡ accepted (three (sets 2 (term.Chain i (bond None (binary.Arithmetic arithmetic_operator.Add integer.Int) (term.Convert integer.Int c) ∷ bond (Some integer.Long) (binary.Arithmetic arithmetic_operator.Subtract integer.Long) l ∷ [])) ∷ []))
 unfolding EachRule
-least = simp judging refl
+mixed_chain = simp judging refl
 
--- int main(int argc, char **argv){return 0;}
-arguments_of_main : broken ((item.Function (heading (specifier.Plain 0 plain.Int) 0 (named 4 (codes "main")) ((parameter (specifier.Plain 9 plain.Int) 0 (Some (named 13 (codes "argc"))) None) ∷ (parameter (specifier.Plain 19 plain.Char) 2 (Some (named 26 (codes "argv"))) None) ∷ [])) (block 31 ((block_item.Statement (return 32 (Some (number (figure 39 0 false))))) ∷ []))) ∷ []) 42 ≡ []
+-- int main(void){char c;int i;long l;c+=l;}
+added : whole ((main_at 0 ((block_item.Declaration (declaration (specifier.Plain 15 plain.Char) ((variable 0 (named 20 (codes "c")) [] None) ∷ []))) ∷ (block_item.Declaration (declaration (specifier.Plain 22 plain.Int) ((variable 0 (named 26 (codes "i")) [] None) ∷ []))) ∷ (block_item.Declaration (declaration (specifier.Plain 28 plain.Long) ((variable 0 (named 33 (codes "l")) [] None) ∷ []))) ∷ (block_item.Statement (simple (simple_form.Assign (name (named 35 (codes "c"))) 36 (Some operator.Plus) (name (named 38 (codes "l")))))) ∷ [])) ∷ []) 41 ≡ accepted (three (sets 0 (term.Convert integer.Char (two c (bond (Some integer.Long) (binary.Arithmetic arithmetic_operator.Add integer.Long) l))) ∷ []))
 unfolding EachRule
-arguments_of_main = simp judging refl
+added = simp judging refl
 
--- int main(int a, char *b[5]){int f;f=1;return f;}
-vector : broken ((item.Function (heading (specifier.Plain 0 plain.Int) 0 (named 4 (codes "main")) ((parameter (specifier.Plain 9 plain.Int) 0 (Some (named 13 (codes "a"))) None) ∷ (parameter (specifier.Plain 16 plain.Char) 1 (Some (named 22 (codes "b"))) (Some (bound.Size (figure 24 5 false)))) ∷ [])) (block 27 ((block_item.Declaration (declaration (specifier.Plain 28 plain.Int) ((variable 0 (named 32 (codes "f")) [] None) ∷ []))) ∷ (block_item.Statement (simple (simple_form.Assign (name (named 34 (codes "f"))) 35 None (number (figure 36 1 false))))) ∷ (block_item.Statement (return 38 (Some (name (named 45 (codes "f")))))) ∷ []))) ∷ []) 48 ≡ []
-unfolding EachRule
-vector = simp judging refl
-
--- int main(){int x=7;long y;char c='a';y=x+c*2L-sizeof(long);x+=y;c++;--x;return x>c?x:y;}
-sums : broken ((item.Function (heading (specifier.Plain 0 plain.Int) 0 (named 4 (codes "main")) []) (block 10 ((block_item.Declaration (declaration (specifier.Plain 11 plain.Int) ((variable 0 (named 15 (codes "x")) [] (Some (number (figure 17 7 false)))) ∷ []))) ∷ (block_item.Declaration (declaration (specifier.Plain 19 plain.Long) ((variable 0 (named 24 (codes "y")) [] None) ∷ []))) ∷ (block_item.Declaration (declaration (specifier.Plain 26 plain.Char) ((variable 0 (named 31 (codes "c")) [] (Some (character 33 97))) ∷ []))) ∷ (block_item.Statement (simple (simple_form.Assign (name (named 37 (codes "y"))) 38 None (chain (name (named 39 (codes "x"))) ((link operator.Plus (chain (name (named 41 (codes "c"))) ((link operator.Star (number (figure 43 2 true))) ∷ []))) ∷ (link operator.Minus (size 46 (specifier.Plain 53 plain.Long) 0)) ∷ []))))) ∷ (block_item.Statement (simple (simple_form.Assign (name (named 59 (codes "x"))) 60 (Some operator.Plus) (name (named 62 (codes "y")))))) ∷ (block_item.Statement (simple (simple_form.Postfix (name (named 64 (codes "c"))) 65 step.Increment))) ∷ (block_item.Statement (simple (simple_form.Prefix 68 step.Decrement (name (named 70 (codes "x")))))) ∷ (block_item.Statement (return 72 (Some (choice (chain (name (named 79 (codes "x"))) ((link operator.Greater (name (named 81 (codes "c")))) ∷ [])) (name (named 83 (codes "x"))) (name (named 85 (codes "y"))))))) ∷ []))) ∷ []) 88 ≡ []
-unfolding EachRule
-sums = simp judging refl
-
--- int main(void){int i;for(int i=0,j=9;i<j;i++){if(i==3)continue;else if(i>5)break;else ;}do i=1;while(!i||~i&3);while(i){int i=2;i=-i;}for(;;)return 1<<2L;}
-loops : broken ((main_at 0 ((block_item.Declaration (declaration (specifier.Plain 15 plain.Int) ((variable 0 (named 19 (codes "i")) [] None) ∷ []))) ∷ (block_item.Statement (for 21 (Some (for_start.Declaration (declaration (specifier.Plain 25 plain.Int) ((variable 0 (named 29 (codes "i")) [] (Some (number (figure 31 0 false)))) ∷ (variable 0 (named 33 (codes "j")) [] (Some (number (figure 35 9 false)))) ∷ [])))) (Some (chain (name (named 37 (codes "i"))) ((link operator.Less (name (named 39 (codes "j")))) ∷ []))) (Some (simple_form.Postfix (name (named 41 (codes "i"))) 42 step.Increment)) (compound (block 45 ((block_item.Statement (branch 46 (chain (name (named 49 (codes "i"))) ((link operator.EqualEqual (number (figure 52 3 false))) ∷ [])) (continue 54) ((arm (chain (name (named 71 (codes "i"))) ((link operator.Greater (number (figure 73 5 false))) ∷ [])) (break 75)) ∷ []) (Some (empty 86)))) ∷ []))))) ∷ (block_item.Statement (do_while 88 (simple (simple_form.Assign (name (named 91 (codes "i"))) 92 None (number (figure 93 1 false)))) (chain (prefix 101 operator.Not (name (named 102 (codes "i")))) ((link operator.OrOr (chain (prefix 105 operator.Tilde (name (named 106 (codes "i")))) ((link operator.And (number (figure 108 3 false))) ∷ []))) ∷ [])))) ∷ (block_item.Statement (while 111 (name (named 117 (codes "i"))) (compound (block 119 ((block_item.Declaration (declaration (specifier.Plain 120 plain.Int) ((variable 0 (named 124 (codes "i")) [] (Some (number (figure 126 2 false)))) ∷ []))) ∷ (block_item.Statement (simple (simple_form.Assign (name (named 128 (codes "i"))) 129 None (prefix 130 operator.Minus (name (named 131 (codes "i"))))))) ∷ []))))) ∷ (block_item.Statement (for 134 None None None (return 141 (Some (chain (number (figure 148 1 false)) ((link operator.ShiftLeft (number (figure 151 2 true))) ∷ [])))))) ∷ [])) ∷ []) 155 ≡ []
-unfolding EachRule
-loops = simp judging refl
-
--- int add(int a,long b);void none(void){return;}int main(void){int s=add(1,2);none();s=(add(s,'x'));return s;}int add(int x,long y){potentialCheckpoint();return x+y;}
-calls : broken ((item.Prototype (heading (specifier.Plain 0 plain.Int) 0 (named 4 (codes "add")) ((parameter (specifier.Plain 8 plain.Int) 0 (Some (named 12 (codes "a"))) None) ∷ (parameter (specifier.Plain 14 plain.Long) 0 (Some (named 19 (codes "b"))) None) ∷ []))) ∷ (item.Function (heading (specifier.Plain 22 plain.Void) 0 (named 27 (codes "none")) ((parameter (specifier.Plain 32 plain.Void) 0 None None) ∷ [])) (block 37 ((block_item.Statement (return 38 None)) ∷ []))) ∷ (main_at 46 ((block_item.Declaration (declaration (specifier.Plain 61 plain.Int) ((variable 0 (named 65 (codes "s")) [] (Some (call (named 67 (codes "add")) ((number (figure 71 1 false)) ∷ (number (figure 73 2 false)) ∷ [])))) ∷ []))) ∷ (block_item.Statement (simple (simple_form.Expression (call (named 76 (codes "none")) [])))) ∷ (block_item.Statement (simple (simple_form.Assign (name (named 83 (codes "s"))) 84 None (group 85 (call (named 86 (codes "add")) ((name (named 90 (codes "s"))) ∷ (character 92 120) ∷ [])))))) ∷ (block_item.Statement (return 98 (Some (name (named 105 (codes "s")))))) ∷ [])) ∷ (item.Function (heading (specifier.Plain 108 plain.Int) 0 (named 112 (codes "add")) ((parameter (specifier.Plain 116 plain.Int) 0 (Some (named 120 (codes "x"))) None) ∷ (parameter (specifier.Plain 122 plain.Long) 0 (Some (named 127 (codes "y"))) None) ∷ [])) (block 129 ((block_item.Statement (marked 130)) ∷ (block_item.Statement (return 152 (Some (chain (name (named 159 (codes "x"))) ((link operator.Plus (name (named 161 (codes "y")))) ∷ []))))) ∷ []))) ∷ []) 164 ≡ []
-unfolding EachRule
-calls = simp judging refl
-
--- ---- UnknownName
-
--- int main(void){x=1;return 0;}
-no_variable : broken ((main_at 0 ((block_item.Statement (simple (simple_form.Assign (name (named 15 (codes "x"))) 16 None (number (figure 17 1 false))))) ∷ (block_item.Statement (return 19 (Some (number (figure 26 0 false))))) ∷ [])) ∷ []) 29 ≡ fault kind.UnknownName 15 ∷ []
-unfolding EachRule
-no_variable = simp judging refl
-
--- int main(void){f();return 0;}
-no_function : broken ((main_at 0 ((block_item.Statement (simple (simple_form.Expression (call (named 15 (codes "f")) [])))) ∷ (block_item.Statement (return 19 (Some (number (figure 26 0 false))))) ∷ [])) ∷ []) 29 ≡ fault kind.UnknownName 15 ∷ []
-unfolding EachRule
-no_function = simp judging refl
-
--- int main(void){{int x;}x=1;return 0;}
-left_block : broken ((main_at 0 ((block_item.Statement (compound (block 15 ((block_item.Declaration (declaration (specifier.Plain 16 plain.Int) ((variable 0 (named 20 (codes "x")) [] None) ∷ []))) ∷ [])))) ∷ (block_item.Statement (simple (simple_form.Assign (name (named 23 (codes "x"))) 24 None (number (figure 25 1 false))))) ∷ (block_item.Statement (return 27 (Some (number (figure 34 0 false))))) ∷ [])) ∷ []) 37 ≡ fault kind.UnknownName 23 ∷ []
-unfolding EachRule
-left_block = simp judging refl
-
--- int main(void){for(int i=0;i<1;i++);return i;}
-left_for : broken ((main_at 0 ((block_item.Statement (for 15 (Some (for_start.Declaration (declaration (specifier.Plain 19 plain.Int) ((variable 0 (named 23 (codes "i")) [] (Some (number (figure 25 0 false)))) ∷ [])))) (Some (chain (name (named 27 (codes "i"))) ((link operator.Less (number (figure 29 1 false))) ∷ []))) (Some (simple_form.Postfix (name (named 31 (codes "i"))) 32 step.Increment)) (empty 35))) ∷ (block_item.Statement (return 36 (Some (name (named 43 (codes "i")))))) ∷ [])) ∷ []) 46 ≡ fault kind.UnknownName 43 ∷ []
-unfolding EachRule
-left_for = simp judging refl
-
--- int main(int c,char **v){return c;}
-main_parameter : broken ((item.Function (heading (specifier.Plain 0 plain.Int) 0 (named 4 (codes "main")) ((parameter (specifier.Plain 9 plain.Int) 0 (Some (named 13 (codes "c"))) None) ∷ (parameter (specifier.Plain 15 plain.Char) 2 (Some (named 22 (codes "v"))) None) ∷ [])) (block 24 ((block_item.Statement (return 25 (Some (name (named 32 (codes "c")))))) ∷ []))) ∷ []) 35 ≡ fault kind.UnknownName 32 ∷ []
-unfolding EachRule
-main_parameter = simp judging refl
-
--- int f(void){return 1;}int main(void){int f;f();return 0;}
-hidden_function : broken ((item.Function (heading (specifier.Plain 0 plain.Int) 0 (named 4 (codes "f")) ((parameter (specifier.Plain 6 plain.Void) 0 None None) ∷ [])) (block 11 ((block_item.Statement (return 12 (Some (number (figure 19 1 false))))) ∷ []))) ∷ (main_at 22 ((block_item.Declaration (declaration (specifier.Plain 37 plain.Int) ((variable 0 (named 41 (codes "f")) [] None) ∷ []))) ∷ (block_item.Statement (simple (simple_form.Expression (call (named 43 (codes "f")) [])))) ∷ (block_item.Statement (return 47 (Some (number (figure 54 0 false))))) ∷ [])) ∷ []) 57 ≡ fault kind.UnknownName 43 ∷ []
-unfolding EachRule
-hidden_function = simp judging refl
-
--- int f(void){return 1;}int main(void){return f;}
-function_as_variable : broken ((item.Function (heading (specifier.Plain 0 plain.Int) 0 (named 4 (codes "f")) ((parameter (specifier.Plain 6 plain.Void) 0 None None) ∷ [])) (block 11 ((block_item.Statement (return 12 (Some (number (figure 19 1 false))))) ∷ []))) ∷ (main_at 22 ((block_item.Statement (return 37 (Some (name (named 44 (codes "f")))))) ∷ [])) ∷ []) 47 ≡ fault kind.UnknownName 44 ∷ []
-unfolding EachRule
-function_as_variable = simp judging refl
-
--- int main(void){int a=b,b=1;return 0;}
-before_its_declaration : broken ((main_at 0 ((block_item.Declaration (declaration (specifier.Plain 15 plain.Int) ((variable 0 (named 19 (codes "a")) [] (Some (name (named 21 (codes "b"))))) ∷ (variable 0 (named 23 (codes "b")) [] (Some (number (figure 25 1 false)))) ∷ []))) ∷ (block_item.Statement (return 27 (Some (number (figure 34 0 false))))) ∷ [])) ∷ []) 37 ≡ fault kind.UnknownName 21 ∷ []
-unfolding EachRule
-before_its_declaration = simp judging refl
-
--- struct s main(void){return 0;}
-struct_of_main : broken ((item.Function (heading (specifier.Struct 0 (named 7 (codes "s"))) 0 (named 9 (codes "main")) ((parameter (specifier.Plain 14 plain.Void) 0 None None) ∷ [])) (block 19 ((block_item.Statement (return 20 (Some (number (figure 27 0 false))))) ∷ []))) ∷ []) 30 ≡ fault kind.UnknownName 7 ∷ fault kind.BadMain 9 ∷ fault kind.ReturnValue 20 ∷ []
-unfolding EachRule
-struct_of_main = simp judging refl
-
--- int f(int a){return a;}int main(void){f(zq,2);return 0;}
-part_of_call : broken ((item.Function (heading (specifier.Plain 0 plain.Int) 0 (named 4 (codes "f")) ((parameter (specifier.Plain 6 plain.Int) 0 (Some (named 10 (codes "a"))) None) ∷ [])) (block 12 ((block_item.Statement (return 13 (Some (name (named 20 (codes "a")))))) ∷ []))) ∷ (main_at 23 ((block_item.Statement (simple (simple_form.Expression (call (named 38 (codes "f")) ((name (named 40 (codes "zq"))) ∷ (number (figure 43 2 false)) ∷ []))))) ∷ (block_item.Statement (return 46 (Some (number (figure 53 0 false))))) ∷ [])) ∷ []) 56 ≡ fault kind.UnknownName 40 ∷ []
-unfolding EachRule
-part_of_call = simp judging refl
-
--- ---- Redeclared
-
--- int main(void){int x;char x;return 0;}
-twice : broken ((main_at 0 ((block_item.Declaration (declaration (specifier.Plain 15 plain.Int) ((variable 0 (named 19 (codes "x")) [] None) ∷ []))) ∷ (block_item.Declaration (declaration (specifier.Plain 21 plain.Char) ((variable 0 (named 26 (codes "x")) [] None) ∷ []))) ∷ (block_item.Statement (return 28 (Some (number (figure 35 0 false))))) ∷ [])) ∷ []) 38 ≡ fault kind.Redeclared 26 ∷ []
-unfolding EachRule
-twice = simp judging refl
-
--- int f(int a){int a;return 0;}int main(void){return 0;}
-parameter_and_variable : broken ((item.Function (heading (specifier.Plain 0 plain.Int) 0 (named 4 (codes "f")) ((parameter (specifier.Plain 6 plain.Int) 0 (Some (named 10 (codes "a"))) None) ∷ [])) (block 12 ((block_item.Declaration (declaration (specifier.Plain 13 plain.Int) ((variable 0 (named 17 (codes "a")) [] None) ∷ []))) ∷ (block_item.Statement (return 19 (Some (number (figure 26 0 false))))) ∷ []))) ∷ (main_at 29 ((block_item.Statement (return 44 (Some (number (figure 51 0 false))))) ∷ [])) ∷ []) 54 ≡ fault kind.Redeclared 17 ∷ []
-unfolding EachRule
-parameter_and_variable = simp judging refl
-
--- int f(int b,int b);int main(void){return 0;}
-two_parameters : broken ((item.Prototype (heading (specifier.Plain 0 plain.Int) 0 (named 4 (codes "f")) ((parameter (specifier.Plain 6 plain.Int) 0 (Some (named 10 (codes "b"))) None) ∷ (parameter (specifier.Plain 12 plain.Int) 0 (Some (named 16 (codes "b"))) None) ∷ []))) ∷ (main_at 19 ((block_item.Statement (return 34 (Some (number (figure 41 0 false))))) ∷ [])) ∷ []) 44 ≡ fault kind.Redeclared 16 ∷ []
-unfolding EachRule
-two_parameters = simp judging refl
-
--- int f(void){return 1;}int f(void){return 2;}int main(void){return 0;}
-two_functions : broken ((item.Function (heading (specifier.Plain 0 plain.Int) 0 (named 4 (codes "f")) ((parameter (specifier.Plain 6 plain.Void) 0 None None) ∷ [])) (block 11 ((block_item.Statement (return 12 (Some (number (figure 19 1 false))))) ∷ []))) ∷ (item.Function (heading (specifier.Plain 22 plain.Int) 0 (named 26 (codes "f")) ((parameter (specifier.Plain 28 plain.Void) 0 None None) ∷ [])) (block 33 ((block_item.Statement (return 34 (Some (number (figure 41 2 false))))) ∷ []))) ∷ (main_at 44 ((block_item.Statement (return 59 (Some (number (figure 66 0 false))))) ∷ [])) ∷ []) 69 ≡ fault kind.Redeclared 26 ∷ []
-unfolding EachRule
-two_functions = simp judging refl
-
--- int main(void){return 0;}int main(void){return 0;}
-two_mains : broken ((main_at 0 ((block_item.Statement (return 15 (Some (number (figure 22 0 false))))) ∷ [])) ∷ (main_at 25 ((block_item.Statement (return 40 (Some (number (figure 47 0 false))))) ∷ [])) ∷ []) 50 ≡ fault kind.Redeclared 29 ∷ []
-unfolding EachRule
-two_mains = simp judging refl
-
--- int main(int c,char **v){int c;return 0;}
-parameter_of_main : broken ((item.Function (heading (specifier.Plain 0 plain.Int) 0 (named 4 (codes "main")) ((parameter (specifier.Plain 9 plain.Int) 0 (Some (named 13 (codes "c"))) None) ∷ (parameter (specifier.Plain 15 plain.Char) 2 (Some (named 22 (codes "v"))) None) ∷ [])) (block 24 ((block_item.Declaration (declaration (specifier.Plain 25 plain.Int) ((variable 0 (named 29 (codes "c")) [] None) ∷ []))) ∷ (block_item.Statement (return 31 (Some (number (figure 38 0 false))))) ∷ []))) ∷ []) 41 ≡ fault kind.Redeclared 29 ∷ []
-unfolding EachRule
-parameter_of_main = simp judging refl
-
--- ---- NoMain and BadMain
-
--- int f(void){return 0;}
-nothing_at_all : broken ((item.Function (heading (specifier.Plain 0 plain.Int) 0 (named 4 (codes "f")) ((parameter (specifier.Plain 6 plain.Void) 0 None None) ∷ [])) (block 11 ((block_item.Statement (return 12 (Some (number (figure 19 0 false))))) ∷ []))) ∷ []) 22 ≡ fault kind.NoMain 22 ∷ []
-unfolding EachRule
-nothing_at_all = simp judging refl
-
--- long main(void){return 0;}
-main_of_long : broken ((item.Function (heading (specifier.Plain 0 plain.Long) 0 (named 5 (codes "main")) ((parameter (specifier.Plain 10 plain.Void) 0 None None) ∷ [])) (block 15 ((block_item.Statement (return 16 (Some (number (figure 23 0 false))))) ∷ []))) ∷ []) 26 ≡ fault kind.BadMain 5 ∷ []
-unfolding EachRule
-main_of_long = simp judging refl
-
--- int main(int a){return 0;}
-one_parameter : broken ((item.Function (heading (specifier.Plain 0 plain.Int) 0 (named 4 (codes "main")) ((parameter (specifier.Plain 9 plain.Int) 0 (Some (named 13 (codes "a"))) None) ∷ [])) (block 15 ((block_item.Statement (return 16 (Some (number (figure 23 0 false))))) ∷ []))) ∷ []) 26 ≡ fault kind.BadMain 4 ∷ []
-unfolding EachRule
-one_parameter = simp judging refl
-
--- int main(int,char **){}
-no_names : broken ((item.Function (heading (specifier.Plain 0 plain.Int) 0 (named 4 (codes "main")) ((parameter (specifier.Plain 9 plain.Int) 0 None None) ∷ (parameter (specifier.Plain 13 plain.Char) 2 None None) ∷ [])) (block 21 [])) ∷ []) 23 ≡ fault kind.IncompleteType 9 ∷ fault kind.IncompleteType 13 ∷ fault kind.BadMain 4 ∷ []
-no_names = refl
-
--- int main(int a,char ***b){return 0;}
-three_stars : broken ((item.Function (heading (specifier.Plain 0 plain.Int) 0 (named 4 (codes "main")) ((parameter (specifier.Plain 9 plain.Int) 0 (Some (named 13 (codes "a"))) None) ∷ (parameter (specifier.Plain 15 plain.Char) 3 (Some (named 23 (codes "b"))) None) ∷ [])) (block 25 ((block_item.Statement (return 26 (Some (number (figure 33 0 false))))) ∷ []))) ∷ []) 36 ≡ fault kind.BadMain 4 ∷ []
-unfolding EachRule
-three_stars = simp judging refl
-
--- int main(void);int main(void){return 0;}
-prototype_of_main : broken ((item.Prototype (heading (specifier.Plain 0 plain.Int) 0 (named 4 (codes "main")) ((parameter (specifier.Plain 9 plain.Void) 0 None None) ∷ []))) ∷ (main_at 15 ((block_item.Statement (return 30 (Some (number (figure 37 0 false))))) ∷ [])) ∷ []) 40 ≡ fault kind.BadMain 4 ∷ []
-unfolding EachRule
-prototype_of_main = simp judging refl
-
--- int main(void){main();return 0;}
-called_main : broken ((main_at 0 ((block_item.Statement (simple (simple_form.Expression (call (named 15 (codes "main")) [])))) ∷ (block_item.Statement (return 22 (Some (number (figure 29 0 false))))) ∷ [])) ∷ []) 32 ≡ fault kind.BadMain 15 ∷ []
-unfolding EachRule
-called_main = simp judging refl
-
--- int main(struct s a){}
-struct_in_main : broken ((item.Function (heading (specifier.Plain 0 plain.Int) 0 (named 4 (codes "main")) ((parameter (specifier.Struct 9 (named 16 (codes "s"))) 0 (Some (named 18 (codes "a"))) None) ∷ [])) (block 20 [])) ∷ []) 22 ≡ fault kind.UnknownName 16 ∷ fault kind.BadMain 4 ∷ []
-struct_in_main = refl
+-- ---- statements and calls
 
--- ---- NotScalar
-
--- void v(void){}int main(void){int x=v();return 0;}
-void_value : broken ((item.Function (heading (specifier.Plain 0 plain.Void) 0 (named 5 (codes "v")) ((parameter (specifier.Plain 7 plain.Void) 0 None None) ∷ [])) (block 12 [])) ∷ (main_at 14 ((block_item.Declaration (declaration (specifier.Plain 29 plain.Int) ((variable 0 (named 33 (codes "x")) [] (Some (call (named 35 (codes "v")) []))) ∷ []))) ∷ (block_item.Statement (return 39 (Some (number (figure 46 0 false))))) ∷ [])) ∷ []) 49 ≡ fault kind.NotScalar 35 ∷ []
-unfolding EachRule
-void_value = simp judging refl
-
--- void v(void){}int main(void){int x=(v());return 0;}
-void_in_parentheses : broken ((item.Function (heading (specifier.Plain 0 plain.Void) 0 (named 5 (codes "v")) ((parameter (specifier.Plain 7 plain.Void) 0 None None) ∷ [])) (block 12 [])) ∷ (main_at 14 ((block_item.Declaration (declaration (specifier.Plain 29 plain.Int) ((variable 0 (named 33 (codes "x")) [] (Some (group 35 (call (named 36 (codes "v")) [])))) ∷ []))) ∷ (block_item.Statement (return 41 (Some (number (figure 48 0 false))))) ∷ [])) ∷ []) 51 ≡ fault kind.NotScalar 35 ∷ []
-unfolding EachRule
-void_in_parentheses = simp judging refl
-
--- ---- NotPlace
-
--- int main(void){1=2;return 0;}
-number_as_place : broken ((main_at 0 ((block_item.Statement (simple (simple_form.Assign (number (figure 15 1 false)) 16 None (number (figure 17 2 false))))) ∷ (block_item.Statement (return 19 (Some (number (figure 26 0 false))))) ∷ [])) ∷ []) 29 ≡ fault kind.NotPlace 15 ∷ []
-unfolding EachRule
-number_as_place = simp judging refl
-
--- int main(void){int x;x+1=2;return 0;}
-sum_as_place : broken ((main_at 0 ((block_item.Declaration (declaration (specifier.Plain 15 plain.Int) ((variable 0 (named 19 (codes "x")) [] None) ∷ []))) ∷ (block_item.Statement (simple (simple_form.Assign (chain (name (named 21 (codes "x"))) ((link operator.Plus (number (figure 23 1 false))) ∷ [])) 24 None (number (figure 25 2 false))))) ∷ (block_item.Statement (return 27 (Some (number (figure 34 0 false))))) ∷ [])) ∷ []) 37 ≡ fault kind.NotPlace 21 ∷ []
-unfolding EachRule
-sum_as_place = simp judging refl
-
--- int main(void){int x;(char)x=2;return 0;}
-cast_as_place : broken ((main_at 0 ((block_item.Declaration (declaration (specifier.Plain 15 plain.Int) ((variable 0 (named 19 (codes "x")) [] None) ∷ []))) ∷ (block_item.Statement (simple (simple_form.Assign (cast 21 (specifier.Plain 22 plain.Char) 0 (name (named 27 (codes "x")))) 28 None (number (figure 29 2 false))))) ∷ (block_item.Statement (return 31 (Some (number (figure 38 0 false))))) ∷ [])) ∷ []) 41 ≡ fault kind.NotPlace 21 ∷ []
-unfolding EachRule
-cast_as_place = simp judging refl
-
--- int main(void){3++;return 0;}
-counted_number : broken ((main_at 0 ((block_item.Statement (simple (simple_form.Postfix (number (figure 15 3 false)) 16 step.Increment))) ∷ (block_item.Statement (return 19 (Some (number (figure 26 0 false))))) ∷ [])) ∷ []) 29 ≡ fault kind.NotPlace 15 ∷ []
-unfolding EachRule
-counted_number = simp judging refl
-
--- int main(void){(3)+=1;return 0;}
-updated_number : broken ((main_at 0 ((block_item.Statement (simple (simple_form.Assign (group 15 (number (figure 16 3 false))) 18 (Some operator.Plus) (number (figure 20 1 false))))) ∷ (block_item.Statement (return 22 (Some (number (figure 29 0 false))))) ∷ [])) ∷ []) 32 ≡ fault kind.NotPlace 15 ∷ []
-unfolding EachRule
-updated_number = simp judging refl
-
--- int main(void){int x;(x)=2;((x))++;return 0;}
-place_in_parentheses : broken ((main_at 0 ((block_item.Declaration (declaration (specifier.Plain 15 plain.Int) ((variable 0 (named 19 (codes "x")) [] None) ∷ []))) ∷ (block_item.Statement (simple (simple_form.Assign (group 21 (name (named 22 (codes "x")))) 24 None (number (figure 25 2 false))))) ∷ (block_item.Statement (simple (simple_form.Postfix (group 27 (group 28 (name (named 29 (codes "x"))))) 32 step.Increment))) ∷ (block_item.Statement (return 35 (Some (number (figure 42 0 false))))) ∷ [])) ∷ []) 45 ≡ []
-unfolding EachRule
-place_in_parentheses = simp judging refl
-
--- ---- TypeMismatch
-
--- int main(void){return (void)1;}
-cast_to_void : broken ((main_at 0 ((block_item.Statement (return 15 (Some (cast 22 (specifier.Plain 23 plain.Void) 0 (number (figure 28 1 false)))))) ∷ [])) ∷ []) 31 ≡ fault kind.TypeMismatch 22 ∷ []
-unfolding EachRule
-cast_to_void = simp judging refl
-
--- int main(void){return (void)q;}
-cast_of_unknown : broken ((main_at 0 ((block_item.Statement (return 15 (Some (cast 22 (specifier.Plain 23 plain.Void) 0 (name (named 28 (codes "q"))))))) ∷ [])) ∷ []) 31 ≡ fault kind.UnknownName 28 ∷ []
-unfolding EachRule
-cast_of_unknown = simp judging refl
-
--- ---- ArgumentCount
-
--- int f(int a){return a;}int main(void){f();return 0;}
-too_few : broken ((item.Function (heading (specifier.Plain 0 plain.Int) 0 (named 4 (codes "f")) ((parameter (specifier.Plain 6 plain.Int) 0 (Some (named 10 (codes "a"))) None) ∷ [])) (block 12 ((block_item.Statement (return 13 (Some (name (named 20 (codes "a")))))) ∷ []))) ∷ (main_at 23 ((block_item.Statement (simple (simple_form.Expression (call (named 38 (codes "f")) [])))) ∷ (block_item.Statement (return 42 (Some (number (figure 49 0 false))))) ∷ [])) ∷ []) 52 ≡ fault kind.ArgumentCount 38 ∷ []
-unfolding EachRule
-too_few = simp judging refl
-
--- int f(void){return 1;}int main(void){f(1);return 0;}
-too_many : broken ((item.Function (heading (specifier.Plain 0 plain.Int) 0 (named 4 (codes "f")) ((parameter (specifier.Plain 6 plain.Void) 0 None None) ∷ [])) (block 11 ((block_item.Statement (return 12 (Some (number (figure 19 1 false))))) ∷ []))) ∷ (main_at 22 ((block_item.Statement (simple (simple_form.Expression (call (named 37 (codes "f")) ((number (figure 39 1 false)) ∷ []))))) ∷ (block_item.Statement (return 42 (Some (number (figure 49 0 false))))) ∷ [])) ∷ []) 52 ≡ fault kind.ArgumentCount 37 ∷ []
-unfolding EachRule
-too_many = simp judging refl
-
--- ---- CallPlace
-
--- int f(void){return 1;}int main(void){int x;x=1+f();return 0;}
-call_in_sum : broken ((item.Function (heading (specifier.Plain 0 plain.Int) 0 (named 4 (codes "f")) ((parameter (specifier.Plain 6 plain.Void) 0 None None) ∷ [])) (block 11 ((block_item.Statement (return 12 (Some (number (figure 19 1 false))))) ∷ []))) ∷ (main_at 22 ((block_item.Declaration (declaration (specifier.Plain 37 plain.Int) ((variable 0 (named 41 (codes "x")) [] None) ∷ []))) ∷ (block_item.Statement (simple (simple_form.Assign (name (named 43 (codes "x"))) 44 None (chain (number (figure 45 1 false)) ((link operator.Plus (call (named 47 (codes "f")) [])) ∷ []))))) ∷ (block_item.Statement (return 51 (Some (number (figure 58 0 false))))) ∷ [])) ∷ []) 61 ≡ fault kind.CallPlace 47 ∷ []
-unfolding EachRule
-call_in_sum = simp judging refl
-
--- int f(void){return 1;}int main(void){return f();}
-call_in_return : broken ((item.Function (heading (specifier.Plain 0 plain.Int) 0 (named 4 (codes "f")) ((parameter (specifier.Plain 6 plain.Void) 0 None None) ∷ [])) (block 11 ((block_item.Statement (return 12 (Some (number (figure 19 1 false))))) ∷ []))) ∷ (main_at 22 ((block_item.Statement (return 37 (Some (call (named 44 (codes "f")) [])))) ∷ [])) ∷ []) 49 ≡ fault kind.CallPlace 44 ∷ []
-unfolding EachRule
-call_in_return = simp judging refl
-
--- int f(void){return 1;}int g(int a){return a;}int main(void){g(f());return 0;}
-call_as_argument : broken ((item.Function (heading (specifier.Plain 0 plain.Int) 0 (named 4 (codes "f")) ((parameter (specifier.Plain 6 plain.Void) 0 None None) ∷ [])) (block 11 ((block_item.Statement (return 12 (Some (number (figure 19 1 false))))) ∷ []))) ∷ (item.Function (heading (specifier.Plain 22 plain.Int) 0 (named 26 (codes "g")) ((parameter (specifier.Plain 28 plain.Int) 0 (Some (named 32 (codes "a"))) None) ∷ [])) (block 34 ((block_item.Statement (return 35 (Some (name (named 42 (codes "a")))))) ∷ []))) ∷ (main_at 45 ((block_item.Statement (simple (simple_form.Expression (call (named 60 (codes "g")) ((call (named 62 (codes "f")) []) ∷ []))))) ∷ (block_item.Statement (return 67 (Some (number (figure 74 0 false))))) ∷ [])) ∷ []) 77 ≡ fault kind.CallPlace 62 ∷ []
-unfolding EachRule
-call_as_argument = simp judging refl
-
--- int f(void){return 1;}int main(void){int x;x+=f();return 0;}
-call_in_update : broken ((item.Function (heading (specifier.Plain 0 plain.Int) 0 (named 4 (codes "f")) ((parameter (specifier.Plain 6 plain.Void) 0 None None) ∷ [])) (block 11 ((block_item.Statement (return 12 (Some (number (figure 19 1 false))))) ∷ []))) ∷ (main_at 22 ((block_item.Declaration (declaration (specifier.Plain 37 plain.Int) ((variable 0 (named 41 (codes "x")) [] None) ∷ []))) ∷ (block_item.Statement (simple (simple_form.Assign (name (named 43 (codes "x"))) 44 (Some operator.Plus) (call (named 46 (codes "f")) [])))) ∷ (block_item.Statement (return 50 (Some (number (figure 57 0 false))))) ∷ [])) ∷ []) 60 ≡ fault kind.CallPlace 46 ∷ []
+-- int main(void){printf("a%d%%\n",1);}
+printed_pieces : whole ((main_at 0 ((block_item.Statement (print 15 22 (97 ∷ 37 ∷ 100 ∷ 37 ∷ 37 ∷ 10 ∷ []) ((number (figure 32 1 false)) ∷ []))) ∷ [])) ∷ []) 36 ≡ accepted (program_of [] [] (typed.Print (piece.Byte 97 ∷ piece.Decimal ∷ piece.Byte 37 ∷ piece.Byte 10 ∷ []) (term.Number (pos 1) integer.Int ∷ []) ∷ []))
 unfolding EachRule
-call_in_update = simp judging refl
-
--- int main(void){(1)+2;return 0;}
-number_statement : broken ((main_at 0 ((block_item.Statement (simple (simple_form.Expression (chain (group 15 (number (figure 16 1 false))) ((link operator.Plus (number (figure 19 2 false))) ∷ []))))) ∷ (block_item.Statement (return 21 (Some (number (figure 28 0 false))))) ∷ [])) ∷ []) 31 ≡ fault kind.CallPlace 15 ∷ []
-unfolding EachRule
-number_statement = simp judging refl
-
--- int f(void){return 1;}int main(void){for(;f(););return 0;}
-call_in_test : broken ((item.Function (heading (specifier.Plain 0 plain.Int) 0 (named 4 (codes "f")) ((parameter (specifier.Plain 6 plain.Void) 0 None None) ∷ [])) (block 11 ((block_item.Statement (return 12 (Some (number (figure 19 1 false))))) ∷ []))) ∷ (main_at 22 ((block_item.Statement (for 37 None (Some (call (named 42 (codes "f")) [])) None (empty 47))) ∷ (block_item.Statement (return 48 (Some (number (figure 55 0 false))))) ∷ [])) ∷ []) 58 ≡ fault kind.CallPlace 42 ∷ []
-unfolding EachRule
-call_in_test = simp judging refl
-
--- int f(void){return 1;}int main(void){int x;for(x=f();x;f())((f()));return 0;}
-calls_in_head : broken ((item.Function (heading (specifier.Plain 0 plain.Int) 0 (named 4 (codes "f")) ((parameter (specifier.Plain 6 plain.Void) 0 None None) ∷ [])) (block 11 ((block_item.Statement (return 12 (Some (number (figure 19 1 false))))) ∷ []))) ∷ (main_at 22 ((block_item.Declaration (declaration (specifier.Plain 37 plain.Int) ((variable 0 (named 41 (codes "x")) [] None) ∷ []))) ∷ (block_item.Statement (for 43 (Some (for_start.Simple (simple_form.Assign (name (named 47 (codes "x"))) 48 None (call (named 49 (codes "f")) [])))) (Some (name (named 53 (codes "x")))) (Some (simple_form.Expression (call (named 55 (codes "f")) []))) (simple (simple_form.Expression (group 59 (group 60 (call (named 61 (codes "f")) []))))))) ∷ (block_item.Statement (return 67 (Some (number (figure 74 0 false))))) ∷ [])) ∷ []) 77 ≡ []
-unfolding EachRule
-calls_in_head = simp judging refl
-
--- ---- ReturnValue
+printed_pieces = simp judging refl
 
--- void v(void){return 1;}int main(void){return 0;}
-value_of_void : broken ((item.Function (heading (specifier.Plain 0 plain.Void) 0 (named 5 (codes "v")) ((parameter (specifier.Plain 7 plain.Void) 0 None None) ∷ [])) (block 12 ((block_item.Statement (return 13 (Some (number (figure 20 1 false))))) ∷ []))) ∷ (main_at 23 ((block_item.Statement (return 38 (Some (number (figure 45 0 false))))) ∷ [])) ∷ []) 48 ≡ fault kind.ReturnValue 13 ∷ []
+-- long f(char a){int b=a;return b;}int main(void){char c=f(300);f(c);}
+called_function : whole ((item.Function (heading (specifier.Plain 0 plain.Long) 0 (named 5 (codes "f")) ((parameter (specifier.Plain 7 plain.Char) 0 (Some (named 12 (codes "a"))) None) ∷ [])) (block 14 ((block_item.Declaration (declaration (specifier.Plain 15 plain.Int) ((variable 0 (named 19 (codes "b")) [] (Some (name (named 21 (codes "a"))))) ∷ []))) ∷ (block_item.Statement (return 23 (Some (name (named 30 (codes "b")))))) ∷ []))) ∷ (main_at 33 ((block_item.Declaration (declaration (specifier.Plain 48 plain.Char) ((variable 0 (named 53 (codes "c")) [] (Some (call (named 55 (codes "f")) ((number (figure 57 300 false)) ∷ [])))) ∷ []))) ∷ (block_item.Statement (simple (simple_form.Expression (call (named 62 (codes "f")) ((name (named 64 (codes "c"))) ∷ []))))) ∷ [])) ∷ []) 68 ≡ accepted (program_with [] (record { name = codes "f"; result = long; parameters = 1; variables = single char ∷ single int ∷ []; body = typed.Actions (action.Set (within 1 []) (term.Convert integer.Int c) ∷ []) ∷ typed.Return (Some (term.Convert integer.Long i)) ∷ [] } ∷ record { name = codes "main"; result = int; parameters = 0; variables = single char ∷ []; body = typed.Actions (action.Call (Some (record { place = within 0 []; kind = scalar.Number integer.Char })) 0 (term.Convert integer.Char (term.Number (pos 300) integer.Int) ∷ []) ∷ []) ∷ typed.Actions (action.Call None 0 (c ∷ []) ∷ []) ∷ [] } ∷ []) 1)
 unfolding EachRule
-value_of_void = simp judging refl
+called_function = simp judging refl
 
--- int main(void){return;}
-no_value : broken ((main_at 0 ((block_item.Statement (return 15 None)) ∷ [])) ∷ []) 23 ≡ fault kind.ReturnValue 15 ∷ []
+-- int main(int a,char **b){for(int i=0,j;i<9;){do;while(1);}if(2);else if(3)return 4;}
+loop_forms : whole ((item.Function (heading (specifier.Plain 0 plain.Int) 0 (named 4 (codes "main")) ((parameter (specifier.Plain 9 plain.Int) 0 (Some (named 13 (codes "a"))) None) ∷ (parameter (specifier.Plain 15 plain.Char) 2 (Some (named 22 (codes "b"))) None) ∷ [])) (block 24 ((block_item.Statement (for 25 (Some (for_start.Declaration (declaration (specifier.Plain 29 plain.Int) ((variable 0 (named 33 (codes "i")) [] (Some (number (figure 35 0 false)))) ∷ (variable 0 (named 37 (codes "j")) [] None) ∷ [])))) (Some (chain (name (named 39 (codes "i"))) ((link operator.Less (number (figure 41 9 false))) ∷ []))) None (compound (block 44 ((block_item.Statement (do_while 45 (empty 47) (number (figure 54 1 false)))) ∷ []))))) ∷ (block_item.Statement (branch 58 (number (figure 61 2 false)) (empty 63) ((arm (number (figure 72 3 false)) (return 74 (Some (number (figure 81 4 false))))) ∷ []) None)) ∷ []))) ∷ []) 84 ≡ accepted (program_of [] (single int ∷ single int ∷ []) (typed.For (action.Set (within 0 []) (term.Number (pos 0) integer.Int) ∷ action.Zero 1 ∷ []) (Some (two (read integer.Int (within 0 [])) (bond None (binary.Comparison compare.Less) (term.Number (pos 9) integer.Int)))) [] (typed.Block (typed.DoWhile (typed.Actions [] ∷ []) (term.Number (pos 1) integer.Int) ∷ []) ∷ []) ∷ typed.If ((record { test = term.Number (pos 2) integer.Int; body = typed.Actions [] ∷ [] }) ∷ (record { test = term.Number (pos 3) integer.Int; body = typed.Return (Some (term.Number (pos 4) integer.Int)) ∷ [] }) ∷ []) [] ∷ []))
 unfolding EachRule
-no_value = simp judging refl
+loop_forms = simp judging refl
 
--- ---- LoopWord
+-- ---- places
 
--- int main(void){if(1)break;return 0;}
-break_outside : broken ((main_at 0 ((block_item.Statement (branch 15 (number (figure 18 1 false)) (break 20) [] None)) ∷ (block_item.Statement (return 26 (Some (number (figure 33 0 false))))) ∷ [])) ∷ []) 36 ≡ fault kind.LoopWord 20 ∷ []
+-- int main(void){char a[2],b[2][3],*p=a;p=b[1];*a=*p;p[1]=0;p=a+1;}
+array_as_pointer : whole ((main_at 0 ((block_item.Declaration (declaration (specifier.Plain 15 plain.Char) ((variable 0 (named 20 (codes "a")) ((figure 22 2 false) ∷ []) None) ∷ (variable 0 (named 25 (codes "b")) ((figure 27 2 false) ∷ (figure 30 3 false) ∷ []) None) ∷ (variable 1 (named 34 (codes "p")) [] (Some (name (named 36 (codes "a"))))) ∷ []))) ∷ (block_item.Statement (simple (simple_form.Assign (name (named 38 (codes "p"))) 39 None (path (primary.Name (named 40 (codes "b"))) (suffix.Index 41 (number (figure 42 1 false)) ∷ []))))) ∷ (block_item.Statement (simple (simple_form.Assign (prefix 45 operator.Star (name (named 46 (codes "a")))) 47 None (prefix 48 operator.Star (name (named 49 (codes "p"))))))) ∷ (block_item.Statement (simple (simple_form.Assign (path (primary.Name (named 51 (codes "p"))) (suffix.Index 52 (number (figure 53 1 false)) ∷ [])) 55 None (number (figure 56 0 false))))) ∷ (block_item.Statement (simple (simple_form.Assign (name (named 58 (codes "p"))) 59 None (chain (name (named 60 (codes "a"))) ((link operator.Plus (number (figure 62 1 false))) ∷ []))))) ∷ [])) ∷ []) 65 ≡ accepted (program_of [] (object char (2 ∷ []) 2 ∷ object char (2 ∷ 3 ∷ []) 6 ∷ single (to char) ∷ []) (typed.Actions (action.Zero 0 ∷ action.Zero 1 ∷ action.Set (within 2 []) (term.Address (within 0 (selection.Element (term.Number (pos 0) integer.Int) 1 ∷ []))) ∷ []) ∷ typed.Actions (action.Set (within 2 []) (term.Address (within 1 (selection.Element (term.Number (pos 1) integer.Int) 3 ∷ selection.Element (term.Number (pos 0) integer.Int) 1 ∷ []))) ∷ []) ∷ typed.Actions (action.Set (within 0 (selection.Element (term.Number (pos 0) integer.Int) 1 ∷ selection.Checked ∷ [])) (read integer.Char (within 2 (selection.Follow ∷ []))) ∷ []) ∷ typed.Actions (action.Set (within 2 (selection.Follow ∷ selection.Element (term.Number (pos 1) integer.Int) 1 ∷ [])) (term.Convert integer.Char (term.Number (pos 0) integer.Int)) ∷ []) ∷ typed.Actions (action.Set (within 2 []) (two (term.Address (within 0 (selection.Element (term.Number (pos 0) integer.Int) 1 ∷ []))) (bond None (binary.Advance way.Forward 1) (term.Number (pos 1) integer.Int))) ∷ []) ∷ []))
 unfolding EachRule
-break_outside = simp judging refl
+array_as_pointer = simp judging refl
 
--- int main(void){while(1){continue;}{continue;}return 0;}
-continue_after : broken ((main_at 0 ((block_item.Statement (while 15 (number (figure 21 1 false)) (compound (block 23 ((block_item.Statement (continue 24)) ∷ []))))) ∷ (block_item.Statement (compound (block 34 ((block_item.Statement (continue 35)) ∷ [])))) ∷ (block_item.Statement (return 45 (Some (number (figure 52 0 false))))) ∷ [])) ∷ []) 55 ≡ fault kind.LoopWord 35 ∷ []
+-- int main(void){char **p=malloc('a'),c;p[1]=((char*)(malloc(c)));free(NULL);}
+allocated_pointers : whole ((main_at 0 ((block_item.Declaration (declaration (specifier.Plain 15 plain.Char) ((variable 2 (named 22 (codes "p")) [] (Some (allocated 24 (character 31 97)))) ∷ (variable 0 (named 36 (codes "c")) [] None) ∷ []))) ∷ (block_item.Statement (simple (simple_form.Assign (path (primary.Name (named 38 (codes "p"))) (suffix.Index 39 (number (figure 40 1 false)) ∷ [])) 42 None (group 43 (cast 44 (specifier.Plain 45 plain.Char) 1 (group 51 (allocated 52 (name (named 59 (codes "c")))))))))) ∷ (block_item.Statement (freed 64 (word 69 constant.Null))) ∷ [])) ∷ []) 76 ≡ accepted (program_of [] (single (to (to char)) ∷ single char ∷ []) (typed.Actions (action.Malloc (within 0 []) (term.Number (pos 97) integer.Int) (record { cells = 1; size = 16 }) ∷ action.Zero 1 ∷ []) ∷ typed.Actions (action.Malloc (within 0 (selection.Follow ∷ selection.Element (term.Number (pos 1) integer.Int) 1 ∷ [])) (read integer.Char (within 1 [])) (record { cells = 1; size = 1 }) ∷ []) ∷ typed.Free term.Null ∷ []))
 unfolding EachRule
-continue_after = simp judging refl
+allocated_pointers = simp judging refl
 
--- ---- ArraySize
-
--- int main(int a,char *b[0]){return 0;}
-no_size : broken ((item.Function (heading (specifier.Plain 0 plain.Int) 0 (named 4 (codes "main")) ((parameter (specifier.Plain 9 plain.Int) 0 (Some (named 13 (codes "a"))) None) ∷ (parameter (specifier.Plain 15 plain.Char) 1 (Some (named 21 (codes "b"))) (Some (bound.Size (figure 23 0 false)))) ∷ [])) (block 26 ((block_item.Statement (return 27 (Some (number (figure 34 0 false))))) ∷ []))) ∷ []) 37 ≡ fault kind.ArraySize 21 ∷ []
+-- struct s{int v;struct s *next;};int main(void){struct s *p;int x;x=p->next->v;p->next=malloc(sizeof(struct s));}
+followed_list : whole ((item.Struct 0 (named 7 (codes "s")) ((members (specifier.Plain 9 plain.Int) ((declared 0 (member_name.Name (named 13 (codes "v"))) []) ∷ [])) ∷ (members (specifier.Struct 15 (named 22 (codes "s"))) ((declared 1 (member_name.Name (named 25 (codes "next"))) []) ∷ [])) ∷ [])) ∷ (main_at 32 ((block_item.Declaration (declaration (specifier.Struct 47 (named 54 (codes "s"))) ((variable 1 (named 57 (codes "p")) [] None) ∷ []))) ∷ (block_item.Declaration (declaration (specifier.Plain 59 plain.Int) ((variable 0 (named 63 (codes "x")) [] None) ∷ []))) ∷ (block_item.Statement (simple (simple_form.Assign (name (named 65 (codes "x"))) 66 None (path (primary.Name (named 67 (codes "p"))) (suffix.Member 68 access.Arrow (member_name.Name (named 70 (codes "next"))) ∷ suffix.Member 74 access.Arrow (member_name.Name (named 76 (codes "v"))) ∷ []))))) ∷ (block_item.Statement (simple (simple_form.Assign (path (primary.Name (named 78 (codes "p"))) (suffix.Member 79 access.Arrow (member_name.Name (named 81 (codes "next"))) ∷ [])) 85 None (allocated 86 (size 93 (specifier.Struct 100 (named 107 (codes "s"))) 0))))) ∷ [])) ∷ []) 112 ≡ accepted (program_of (record { name = codes "s"; members = (record { name = codes "v"; kind = single int; place = 0 } ∷ record { name = codes "next"; kind = single (to (structure 1)); place = 1 } ∷ []); extent = record { cells = 2; size = 20 } } ∷ []) (single (to (structure 1)) ∷ single int ∷ []) (zero 0 ∷ zero 1 ∷ typed.Actions (action.Set (within 1 []) (read integer.Int (within 0 (selection.Follow ∷ selection.Member 1 1 1 ∷ selection.Follow ∷ selection.Member 1 0 0 ∷ []))) ∷ []) ∷ typed.Actions (action.Malloc (within 0 (selection.Follow ∷ selection.Member 1 1 1 ∷ [])) (term.Number (pos 20) integer.Long) (record { cells = 2; size = 20 }) ∷ []) ∷ []))
 unfolding EachRule
-no_size = simp judging refl
+followed_list = simp judging refl
 
--- int main(int a,char *b[8193]){return 0;}
-large_size : broken ((item.Function (heading (specifier.Plain 0 plain.Int) 0 (named 4 (codes "main")) ((parameter (specifier.Plain 9 plain.Int) 0 (Some (named 13 (codes "a"))) None) ∷ (parameter (specifier.Plain 15 plain.Char) 1 (Some (named 21 (codes "b"))) (Some (bound.Size (figure 23 8193 false)))) ∷ [])) (block 29 ((block_item.Statement (return 30 (Some (number (figure 37 0 false))))) ∷ []))) ∷ []) 40 ≡ fault kind.ArraySize 21 ∷ []
+-- struct s{int v;struct s *next;};int main(void){struct s a[3];a[1].next=&a[2];*&a[0].v=a->v;}
+addresses_of_members : whole ((item.Struct 0 (named 7 (codes "s")) ((members (specifier.Plain 9 plain.Int) ((declared 0 (member_name.Name (named 13 (codes "v"))) []) ∷ [])) ∷ (members (specifier.Struct 15 (named 22 (codes "s"))) ((declared 1 (member_name.Name (named 25 (codes "next"))) []) ∷ [])) ∷ [])) ∷ (main_at 32 ((block_item.Declaration (declaration (specifier.Struct 47 (named 54 (codes "s"))) ((variable 0 (named 56 (codes "a")) ((figure 58 3 false) ∷ []) None) ∷ []))) ∷ (block_item.Statement (simple (simple_form.Assign (path (primary.Name (named 61 (codes "a"))) (suffix.Index 62 (number (figure 63 1 false)) ∷ suffix.Member 65 access.Dot (member_name.Name (named 66 (codes "next"))) ∷ [])) 70 None (prefix 71 operator.And (path (primary.Name (named 72 (codes "a"))) (suffix.Index 73 (number (figure 74 2 false)) ∷ [])))))) ∷ (block_item.Statement (simple (simple_form.Assign (prefix 77 operator.Star (prefix 78 operator.And (path (primary.Name (named 79 (codes "a"))) (suffix.Index 80 (number (figure 81 0 false)) ∷ suffix.Member 83 access.Dot (member_name.Name (named 84 (codes "v"))) ∷ [])))) 85 None (path (primary.Name (named 86 (codes "a"))) (suffix.Member 87 access.Arrow (member_name.Name (named 89 (codes "v"))) ∷ []))))) ∷ [])) ∷ []) 92 ≡ accepted (program_of (record { name = codes "s"; members = (record { name = codes "v"; kind = single int; place = 0 } ∷ record { name = codes "next"; kind = single (to (structure 1)); place = 1 } ∷ []); extent = record { cells = 2; size = 20 } } ∷ []) (object (structure 1) (3 ∷ []) 6 ∷ []) (zero 0 ∷ typed.Actions (action.Set (within 0 (selection.Element (term.Number (pos 1) integer.Int) 2 ∷ selection.Member 1 1 1 ∷ [])) (term.Address (within 0 (selection.Element (term.Number (pos 2) integer.Int) 2 ∷ []))) ∷ []) ∷ typed.Actions (action.Set (behind (term.Address (within 0 (selection.Element (term.Number (pos 0) integer.Int) 2 ∷ selection.Member 1 0 0 ∷ []))) []) (read integer.Int (within 0 (selection.Element (term.Number (pos 0) integer.Int) 2 ∷ selection.Checked ∷ selection.Member 1 0 0 ∷ []))) ∷ []) ∷ []))
 unfolding EachRule
-large_size = simp judging refl
+addresses_of_members = simp judging refl
 
--- ---- IncompleteType
-
--- int main(void){void x;return 0;}
-void_variable : broken ((main_at 0 ((block_item.Declaration (declaration (specifier.Plain 15 plain.Void) ((variable 0 (named 20 (codes "x")) [] None) ∷ []))) ∷ (block_item.Statement (return 22 (Some (number (figure 29 0 false))))) ∷ [])) ∷ []) 32 ≡ fault kind.IncompleteType 20 ∷ []
+-- struct s{char c,*p;long a[2][3];};struct t{int MPI_TAG;struct s b[2];struct t *next;struct s s;};int main(void){struct t t;t.b[1].a[0][2]=t.MPI_TAG;(*t.next).s.p=&t.b->c;t.next=t.next-1;}
+members_of_members : whole ((item.Struct 0 (named 7 (codes "s")) ((members (specifier.Plain 9 plain.Char) ((declared 0 (member_name.Name (named 14 (codes "c"))) []) ∷ (declared 1 (member_name.Name (named 17 (codes "p"))) []) ∷ [])) ∷ (members (specifier.Plain 19 plain.Long) ((declared 0 (member_name.Name (named 24 (codes "a"))) ((figure 26 2 false) ∷ (figure 29 3 false) ∷ [])) ∷ [])) ∷ [])) ∷ (item.Struct 34 (named 41 (codes "t")) ((members (specifier.Plain 43 plain.Int) ((declared 0 (member_name.Tag 47) []) ∷ [])) ∷ (members (specifier.Struct 55 (named 62 (codes "s"))) ((declared 0 (member_name.Name (named 64 (codes "b"))) ((figure 66 2 false) ∷ [])) ∷ [])) ∷ (members (specifier.Struct 69 (named 76 (codes "t"))) ((declared 1 (member_name.Name (named 79 (codes "next"))) []) ∷ [])) ∷ (members (specifier.Struct 84 (named 91 (codes "s"))) ((declared 0 (member_name.Name (named 93 (codes "s"))) []) ∷ [])) ∷ [])) ∷ (main_at 97 ((block_item.Declaration (declaration (specifier.Struct 112 (named 119 (codes "t"))) ((variable 0 (named 121 (codes "t")) [] None) ∷ []))) ∷ (block_item.Statement (simple (simple_form.Assign (path (primary.Name (named 123 (codes "t"))) (suffix.Member 124 access.Dot (member_name.Name (named 125 (codes "b"))) ∷ suffix.Index 126 (number (figure 127 1 false)) ∷ suffix.Member 129 access.Dot (member_name.Name (named 130 (codes "a"))) ∷ suffix.Index 131 (number (figure 132 0 false)) ∷ suffix.Index 134 (number (figure 135 2 false)) ∷ [])) 137 None (path (primary.Name (named 138 (codes "t"))) (suffix.Member 139 access.Dot (member_name.Tag 140) ∷ []))))) ∷ (block_item.Statement (simple (simple_form.Assign (path (primary.Group 148 (prefix 149 operator.Star (path (primary.Name (named 150 (codes "t"))) (suffix.Member 151 access.Dot (member_name.Name (named 152 (codes "next"))) ∷ [])))) (suffix.Member 157 access.Dot (member_name.Name (named 158 (codes "s"))) ∷ suffix.Member 159 access.Dot (member_name.Name (named 160 (codes "p"))) ∷ [])) 161 None (prefix 162 operator.And (path (primary.Name (named 163 (codes "t"))) (suffix.Member 164 access.Dot (member_name.Name (named 165 (codes "b"))) ∷ suffix.Member 166 access.Arrow (member_name.Name (named 168 (codes "c"))) ∷ [])))))) ∷ (block_item.Statement (simple (simple_form.Assign (path (primary.Name (named 170 (codes "t"))) (suffix.Member 171 access.Dot (member_name.Name (named 172 (codes "next"))) ∷ [])) 176 None (chain (path (primary.Name (named 177 (codes "t"))) (suffix.Member 178 access.Dot (member_name.Name (named 179 (codes "next"))) ∷ [])) ((link operator.Minus (number (figure 184 1 false))) ∷ []))))) ∷ [])) ∷ []) 187 ≡ accepted (program_of (record { name = codes "s"; members = (record { name = codes "c"; kind = single char; place = 0 } ∷ record { name = codes "p"; kind = single (to char); place = 1 } ∷ record { name = codes "a"; kind = object long (2 ∷ 3 ∷ []) 6; place = 2 } ∷ []); extent = record { cells = 8; size = 65 } } ∷ record { name = codes "t"; members = (record { name = codes "MPI_TAG"; kind = single int; place = 0 } ∷ record { name = codes "b"; kind = object (structure 1) (2 ∷ []) 16; place = 1 } ∷ record { name = codes "next"; kind = single (to (structure 2)); place = 17 } ∷ record { name = codes "s"; kind = object (structure 1) [] 8; place = 18 } ∷ []); extent = record { cells = 26; size = 215 } } ∷ []) (object (structure 2) [] 26 ∷ []) (zero 0 ∷ typed.Actions (action.Set (within 0 (selection.Member 2 1 1 ∷ selection.Element (term.Number (pos 1) integer.Int) 8 ∷ selection.Member 1 2 2 ∷ selection.Element (term.Number (pos 0) integer.Int) 3 ∷ selection.Element (term.Number (pos 2) integer.Int) 1 ∷ [])) (term.Convert integer.Long (read integer.Int (within 0 (selection.Member 2 0 0 ∷ [])))) ∷ []) ∷ typed.Actions (action.Set (within 0 (selection.Member 2 2 17 ∷ selection.Follow ∷ selection.Member 2 3 18 ∷ selection.Member 1 1 1 ∷ [])) (term.Address (within 0 (selection.Member 2 1 1 ∷ selection.Element (term.Number (pos 0) integer.Int) 8 ∷ selection.Checked ∷ selection.Member 1 0 0 ∷ []))) ∷ []) ∷ typed.Actions (action.Set (within 0 (selection.Member 2 2 17 ∷ [])) (two (followed (within 0 (selection.Member 2 2 17 ∷ []))) (bond None (binary.Advance way.Back 26) (term.Number (pos 1) integer.Int))) ∷ []) ∷ []))
 unfolding EachRule
-void_variable = simp judging refl
-
--- int f(int b,void a);int main(void){}
-void_parameter : broken ((item.Prototype (heading (specifier.Plain 0 plain.Int) 0 (named 4 (codes "f")) ((parameter (specifier.Plain 6 plain.Int) 0 (Some (named 10 (codes "b"))) None) ∷ (parameter (specifier.Plain 12 plain.Void) 0 (Some (named 17 (codes "a"))) None) ∷ []))) ∷ (main_at 20 []) ∷ []) 36 ≡ fault kind.IncompleteType 17 ∷ []
-void_parameter = refl
+members_of_members = simp judging refl
 
--- int f(int b,void);int main(void){}
-void_without_name : broken ((item.Prototype (heading (specifier.Plain 0 plain.Int) 0 (named 4 (codes "f")) ((parameter (specifier.Plain 6 plain.Int) 0 (Some (named 10 (codes "b"))) None) ∷ (parameter (specifier.Plain 12 plain.Void) 0 None None) ∷ []))) ∷ (main_at 18 []) ∷ []) 34 ≡ fault kind.IncompleteType 12 ∷ []
-void_without_name = refl
+-- ---- calls of MPI
 
--- int f(int b,char){}int main(void){}
-unnamed_parameter : broken ((item.Function (heading (specifier.Plain 0 plain.Int) 0 (named 4 (codes "f")) ((parameter (specifier.Plain 6 plain.Int) 0 (Some (named 10 (codes "b"))) None) ∷ (parameter (specifier.Plain 12 plain.Char) 0 None None) ∷ [])) (block 17 [])) ∷ (main_at 19 []) ∷ []) 35 ≡ fault kind.IncompleteType 12 ∷ []
-unnamed_parameter = refl
-
--- int f(int,char);int main(void){return 0;}
-unnamed_in_prototype : broken ((item.Prototype (heading (specifier.Plain 0 plain.Int) 0 (named 4 (codes "f")) ((parameter (specifier.Plain 6 plain.Int) 0 None None) ∷ (parameter (specifier.Plain 10 plain.Char) 0 None None) ∷ []))) ∷ (main_at 16 ((block_item.Statement (return 31 (Some (number (figure 38 0 false))))) ∷ [])) ∷ []) 41 ≡ []
-unfolding EachRule
-unnamed_in_prototype = simp judging refl
-
--- int main(void){return sizeof(void);}
-size_of_void : broken ((main_at 0 ((block_item.Statement (return 15 (Some (size 22 (specifier.Plain 29 plain.Void) 0)))) ∷ [])) ∷ []) 36 ≡ fault kind.IncompleteType 22 ∷ []
+-- int main(int a,char **b){int r;MPI_Init(&a,&b);MPI_Comm_rank(MPI_COMM_WORLD,&r);MPI_Comm_size(MPI_COMM_WORLD,&r);MPI_Finalize();}
+start_and_end : whole ((item.Function (heading (specifier.Plain 0 plain.Int) 0 (named 4 (codes "main")) ((parameter (specifier.Plain 9 plain.Int) 0 (Some (named 13 (codes "a"))) None) ∷ (parameter (specifier.Plain 15 plain.Char) 2 (Some (named 22 (codes "b"))) None) ∷ [])) (block 24 ((block_item.Declaration (declaration (specifier.Plain 25 plain.Int) ((variable 0 (named 29 (codes "r")) [] None) ∷ []))) ∷ (block_item.Statement (called (mpi.Init 31 (Some (named 41 (codes "a"), named 44 (codes "b")))))) ∷ (block_item.Statement (called (mpi.CommRank 47 (prefix 76 operator.And (name (named 77 (codes "r"))))))) ∷ (block_item.Statement (called (mpi.CommSize 80 (prefix 109 operator.And (name (named 110 (codes "r"))))))) ∷ (block_item.Statement (called (mpi.Finalize 113))) ∷ []))) ∷ []) 129 ≡ accepted (program_of [] (single int ∷ []) (zero 0 ∷ mpi_call function.Init [] ∷ mpi_call function.CommRank (term.Address (within 0 []) ∷ []) ∷ mpi_call function.CommSize (term.Address (within 0 []) ∷ []) ∷ mpi_call function.Finalize [] ∷ []))
 unfolding EachRule
-size_of_void = simp judging refl
-
--- ---- PrototypeDiffers
+start_and_end = simp judging refl
 
--- int f(void);char f(void){}int main(void){}
-other_result : broken ((item.Prototype (heading (specifier.Plain 0 plain.Int) 0 (named 4 (codes "f")) ((parameter (specifier.Plain 6 plain.Void) 0 None None) ∷ []))) ∷ (item.Function (heading (specifier.Plain 12 plain.Char) 0 (named 17 (codes "f")) ((parameter (specifier.Plain 19 plain.Void) 0 None None) ∷ [])) (block 24 [])) ∷ (main_at 26 []) ∷ []) 42 ≡ fault kind.PrototypeDiffers 17 ∷ []
-other_result = refl
-
--- int f(int a,long b){}int f(int a,int b);int main(void){}
-other_parameter : broken ((item.Function (heading (specifier.Plain 0 plain.Int) 0 (named 4 (codes "f")) ((parameter (specifier.Plain 6 plain.Int) 0 (Some (named 10 (codes "a"))) None) ∷ (parameter (specifier.Plain 12 plain.Long) 0 (Some (named 17 (codes "b"))) None) ∷ [])) (block 19 [])) ∷ (item.Prototype (heading (specifier.Plain 21 plain.Int) 0 (named 25 (codes "f")) ((parameter (specifier.Plain 27 plain.Int) 0 (Some (named 31 (codes "a"))) None) ∷ (parameter (specifier.Plain 33 plain.Int) 0 (Some (named 37 (codes "b"))) None) ∷ []))) ∷ (main_at 40 []) ∷ []) 56 ≡ fault kind.PrototypeDiffers 25 ∷ []
-other_parameter = refl
-
--- int f(int a);int f(int);int f(void);int main(void){}
-other_count : broken ((item.Prototype (heading (specifier.Plain 0 plain.Int) 0 (named 4 (codes "f")) ((parameter (specifier.Plain 6 plain.Int) 0 (Some (named 10 (codes "a"))) None) ∷ []))) ∷ (item.Prototype (heading (specifier.Plain 13 plain.Int) 0 (named 17 (codes "f")) ((parameter (specifier.Plain 19 plain.Int) 0 None None) ∷ []))) ∷ (item.Prototype (heading (specifier.Plain 24 plain.Int) 0 (named 28 (codes "f")) ((parameter (specifier.Plain 30 plain.Void) 0 None None) ∷ []))) ∷ (main_at 36 []) ∷ []) 52 ≡ fault kind.PrototypeDiffers 28 ∷ []
-other_count = refl
-
--- ---- Undefined
-
--- int f(void);int main(void){f();return 0;}
-only_declared : broken ((item.Prototype (heading (specifier.Plain 0 plain.Int) 0 (named 4 (codes "f")) ((parameter (specifier.Plain 6 plain.Void) 0 None None) ∷ []))) ∷ (main_at 12 ((block_item.Statement (simple (simple_form.Expression (call (named 27 (codes "f")) [])))) ∷ (block_item.Statement (return 31 (Some (number (figure 38 0 false))))) ∷ [])) ∷ []) 41 ≡ fault kind.Undefined 27 ∷ []
+-- int main(void){int n,x[4];MPI_Status s;MPI_Recv(&x[1],3,MPI_INT,MPI_ANY_SOURCE,MPI_ANY_TAG,MPI_COMM_WORLD,&s);MPI_Get_count(&s,MPI_INT,&n);}
+received : whole ((main_at 0 ((block_item.Declaration (declaration (specifier.Plain 15 plain.Int) ((variable 0 (named 19 (codes "n")) [] None) ∷ (variable 0 (named 21 (codes "x")) ((figure 23 4 false) ∷ []) None) ∷ []))) ∷ (block_item.Declaration (declaration (specifier.Plain 26 plain.Status) ((variable 0 (named 37 (codes "s")) [] None) ∷ []))) ∷ (block_item.Statement (called (mpi.Recv 39 (buffer (prefix 48 operator.And (path (primary.Name (named 49 (codes "x"))) (suffix.Index 50 (number (figure 51 1 false)) ∷ []))) (number (figure 54 3 false)) (datatype 56 types.Ints)) (word 64 constant.AnySource) (word 79 constant.AnyTag) (status.Given (prefix 106 operator.And (name (named 107 (codes "s")))))))) ∷ (block_item.Statement (called (mpi.GetCount 110 (status.Given (prefix 124 operator.And (name (named 125 (codes "s"))))) (datatype 127 types.Ints) (prefix 135 operator.And (name (named 136 (codes "n"))))))) ∷ [])) ∷ []) 140 ≡ accepted (program_of [] (single int ∷ object int (4 ∷ []) 4 ∷ object (structure 0) [] 4 ∷ []) (typed.Actions (action.Zero 0 ∷ action.Zero 1 ∷ []) ∷ zero 2 ∷ mpi_call (function.Recv datatype_kind.Int) (term.Address (within 1 (selection.Element (term.Number (pos 1) integer.Int) 1 ∷ [])) ∷ term.Number (pos 3) integer.Int ∷ term.Number (negsuc 0) integer.Int ∷ term.Number (negsuc 0) integer.Int ∷ term.Address (within 2 []) ∷ []) ∷ mpi_call (function.GetCount datatype_kind.Int) (term.Address (within 2 []) ∷ term.Address (within 0 []) ∷ []) ∷ []))
 unfolding EachRule
-only_declared = simp judging refl
-
--- ---- FormatMismatch
+received = simp judging refl
 
--- int main(void){char c;long l;printf("%d%%%c %ld\n",c,1,l);printf("");return 0;}
-good_formats : broken ((main_at 0 ((block_item.Declaration (declaration (specifier.Plain 15 plain.Char) ((variable 0 (named 20 (codes "c")) [] None) ∷ []))) ∷ (block_item.Declaration (declaration (specifier.Plain 22 plain.Long) ((variable 0 (named 27 (codes "l")) [] None) ∷ []))) ∷ (block_item.Statement (print 29 36 (37 ∷ 100 ∷ 37 ∷ 37 ∷ 37 ∷ 99 ∷ 32 ∷ 37 ∷ 108 ∷ 100 ∷ 10 ∷ []) ((name (named 51 (codes "c"))) ∷ (number (figure 53 1 false)) ∷ (name (named 55 (codes "l"))) ∷ []))) ∷ (block_item.Statement (print 58 65 [] [])) ∷ (block_item.Statement (return 69 (Some (number (figure 76 0 false))))) ∷ [])) ∷ []) 79 ≡ []
-unfolding EachRule
-good_formats = simp judging refl
+-- ---- a call that is a part
 
--- int main(void){printf("%x",1);return 0;}
-bad_letter : broken ((main_at 0 ((block_item.Statement (print 15 22 (37 ∷ 120 ∷ []) ((number (figure 27 1 false)) ∷ []))) ∷ (block_item.Statement (return 30 (Some (number (figure 37 0 false))))) ∷ [])) ∷ []) 40 ≡ fault kind.FormatMismatch 22 ∷ []
+-- int f(void);int main(void){int x;x=f()+1;return 0;}
+undefined_part : broken ((item.Prototype (heading (specifier.Plain 0 plain.Int) 0 (named 4 (codes "f")) ((parameter (specifier.Plain 6 plain.Void) 0 None None) ∷ []))) ∷ (main_at 12 ((block_item.Declaration (declaration (specifier.Plain 27 plain.Int) ((variable 0 (named 31 (codes "x")) [] None) ∷ []))) ∷ (block_item.Statement (simple (simple_form.Assign (name (named 33 (codes "x"))) 34 None (chain (call (named 35 (codes "f")) []) ((link operator.Plus (number (figure 39 1 false))) ∷ []))))) ∷ (block_item.Statement (return 41 (Some (number (figure 48 0 false))))) ∷ [])) ∷ []) 51 ≡ fault kind.Undefined 35 ∷ fault kind.CallPlace 35 ∷ []
 unfolding EachRule
-bad_letter = simp judging refl
+undefined_part = simp judging refl
 
--- int main(void){printf("a%");return 0;}
-open_percent : broken ((main_at 0 ((block_item.Statement (print 15 22 (97 ∷ 37 ∷ []) [])) ∷ (block_item.Statement (return 28 (Some (number (figure 35 0 false))))) ∷ [])) ∷ []) 38 ≡ fault kind.FormatMismatch 22 ∷ []
+-- int f(int a){return a;}int main(void){int*p;int x;x=f(p)+1;return 0;}
+mistyped_part : broken ((item.Function (heading (specifier.Plain 0 plain.Int) 0 (named 4 (codes "f")) ((parameter (specifier.Plain 6 plain.Int) 0 (Some (named 10 (codes "a"))) None) ∷ [])) (block 12 ((block_item.Statement (return 13 (Some (name (named 20 (codes "a")))))) ∷ []))) ∷ (main_at 23 ((block_item.Declaration (declaration (specifier.Plain 38 plain.Int) ((variable 1 (named 42 (codes "p")) [] None) ∷ []))) ∷ (block_item.Declaration (declaration (specifier.Plain 44 plain.Int) ((variable 0 (named 48 (codes "x")) [] None) ∷ []))) ∷ (block_item.Statement (simple (simple_form.Assign (name (named 50 (codes "x"))) 51 None (chain (call (named 52 (codes "f")) ((name (named 54 (codes "p"))) ∷ [])) ((link operator.Plus (number (figure 57 1 false))) ∷ []))))) ∷ (block_item.Statement (return 59 (Some (number (figure 66 0 false))))) ∷ [])) ∷ []) 69 ≡ fault kind.TypeMismatch 54 ∷ fault kind.CallPlace 52 ∷ []
 unfolding EachRule
-open_percent = simp judging refl
+mistyped_part = simp judging refl
 
--- int main(void){printf("%d",1L);return 0;}
-long_for_int : broken ((main_at 0 ((block_item.Statement (print 15 22 (37 ∷ 100 ∷ []) ((number (figure 27 1 true)) ∷ []))) ∷ (block_item.Statement (return 31 (Some (number (figure 38 0 false))))) ∷ [])) ∷ []) 41 ≡ fault kind.FormatMismatch 22 ∷ []
+-- int f(int a){return a;}int main(void){int x;x=f(zq)+1;return 0;}
+broken_part : broken ((item.Function (heading (specifier.Plain 0 plain.Int) 0 (named 4 (codes "f")) ((parameter (specifier.Plain 6 plain.Int) 0 (Some (named 10 (codes "a"))) None) ∷ [])) (block 12 ((block_item.Statement (return 13 (Some (name (named 20 (codes "a")))))) ∷ []))) ∷ (main_at 23 ((block_item.Declaration (declaration (specifier.Plain 38 plain.Int) ((variable 0 (named 42 (codes "x")) [] None) ∷ []))) ∷ (block_item.Statement (simple (simple_form.Assign (name (named 44 (codes "x"))) 45 None (chain (call (named 46 (codes "f")) ((name (named 48 (codes "zq"))) ∷ [])) ((link operator.Plus (number (figure 52 1 false))) ∷ []))))) ∷ (block_item.Statement (return 54 (Some (number (figure 61 0 false))))) ∷ [])) ∷ []) 64 ≡ fault kind.UnknownName 48 ∷ []
 unfolding EachRule
-long_for_int = simp judging refl
+broken_part = simp judging refl
 
--- int main(void){printf("%ld",1);return 0;}
-int_for_long : broken ((main_at 0 ((block_item.Statement (print 15 22 (37 ∷ 108 ∷ 100 ∷ []) ((number (figure 28 1 false)) ∷ []))) ∷ (block_item.Statement (return 31 (Some (number (figure 38 0 false))))) ∷ [])) ∷ []) 41 ≡ fault kind.FormatMismatch 22 ∷ []
-unfolding EachRule
-int_for_long = simp judging refl
+-- ---- a cast before a malloc
 
--- int main(void){printf("%d");return 0;}
-missing : broken ((main_at 0 ((block_item.Statement (print 15 22 (37 ∷ 100 ∷ []) [])) ∷ (block_item.Statement (return 28 (Some (number (figure 35 0 false))))) ∷ [])) ∷ []) 38 ≡ fault kind.FormatMismatch 22 ∷ []
+-- int main(void){int x;x=(int*)malloc(4);return 0;}
+cast_to_a_pointer : broken ((main_at 0 ((block_item.Declaration (declaration (specifier.Plain 15 plain.Int) ((variable 0 (named 19 (codes "x")) [] None) ∷ []))) ∷ (block_item.Statement (simple (simple_form.Assign (name (named 21 (codes "x"))) 22 None (cast 23 (specifier.Plain 24 plain.Int) 1 (allocated 29 (number (figure 36 4 false))))))) ∷ (block_item.Statement (return 39 (Some (number (figure 46 0 false))))) ∷ [])) ∷ []) 49 ≡ fault kind.MallocPlace 29 ∷ fault kind.TypeMismatch 23 ∷ []
 unfolding EachRule
-missing = simp judging refl
+cast_to_a_pointer = simp judging refl
 
--- int main(void){printf("%d",1,2);return 0;}
-left_over : broken ((main_at 0 ((block_item.Statement (print 15 22 (37 ∷ 100 ∷ []) ((number (figure 27 1 false)) ∷ (number (figure 29 2 false)) ∷ []))) ∷ (block_item.Statement (return 32 (Some (number (figure 39 0 false))))) ∷ [])) ∷ []) 42 ≡ fault kind.FormatMismatch 22 ∷ []
+-- int main(void){int x;x=(int)malloc(4);return 0;}
+cast_to_the_number : broken ((main_at 0 ((block_item.Declaration (declaration (specifier.Plain 15 plain.Int) ((variable 0 (named 19 (codes "x")) [] None) ∷ []))) ∷ (block_item.Statement (simple (simple_form.Assign (name (named 21 (codes "x"))) 22 None (cast 23 (specifier.Plain 24 plain.Int) 0 (allocated 28 (number (figure 35 4 false))))))) ∷ (block_item.Statement (return 38 (Some (number (figure 45 0 false))))) ∷ [])) ∷ []) 48 ≡ fault kind.MallocPlace 28 ∷ []
 unfolding EachRule
-left_over = simp judging refl
+cast_to_the_number = simp judging refl
 
--- ---- the lowest place, and the first of the table
+-- ---- a header that breaks a rule
 
--- int f(void){return 1;}int main(void){return f()+x;}
-two_faults : broken ((item.Function (heading (specifier.Plain 0 plain.Int) 0 (named 4 (codes "f")) ((parameter (specifier.Plain 6 plain.Void) 0 None None) ∷ [])) (block 11 ((block_item.Statement (return 12 (Some (number (figure 19 1 false))))) ∷ []))) ∷ (main_at 22 ((block_item.Statement (return 37 (Some (chain (call (named 44 (codes "f")) []) ((link operator.Plus (name (named 48 (codes "x")))) ∷ []))))) ∷ [])) ∷ []) 51 ≡ fault kind.CallPlace 44 ∷ fault kind.UnknownName 48 ∷ []
+-- int main(void){int x;f(x);return 0;}int f(struct u *p){return 0;}
+header_behind : broken ((main_at 0 ((block_item.Declaration (declaration (specifier.Plain 15 plain.Int) ((variable 0 (named 19 (codes "x")) [] None) ∷ []))) ∷ (block_item.Statement (simple (simple_form.Expression (call (named 21 (codes "f")) ((name (named 23 (codes "x"))) ∷ []))))) ∷ (block_item.Statement (return 26 (Some (number (figure 33 0 false))))) ∷ [])) ∷ (item.Function (heading (specifier.Plain 36 plain.Int) 0 (named 40 (codes "f")) ((parameter (specifier.Struct 42 (named 49 (codes "u"))) 1 (Some (named 52 (codes "p"))) None) ∷ [])) (block 54 ((block_item.Statement (return 55 (Some (number (figure 62 0 false))))) ∷ []))) ∷ []) 65 ≡ fault kind.UnknownName 49 ∷ []
 unfolding EachRule
-two_faults = simp judging refl
+header_behind = simp judging refl
 
--- int main(void){f();x=1;return 0;}
-name_before_count : broken ((main_at 0 ((block_item.Statement (simple (simple_form.Expression (call (named 15 (codes "f")) [])))) ∷ (block_item.Statement (simple (simple_form.Assign (name (named 19 (codes "x"))) 20 None (number (figure 21 1 false))))) ∷ (block_item.Statement (return 23 (Some (number (figure 30 0 false))))) ∷ [])) ∷ []) 33 ≡ fault kind.UnknownName 15 ∷ fault kind.UnknownName 19 ∷ []
+-- int main(void){int*p;p=f();return 0;}int f(struct u *p);
+undefined_header_behind : broken ((main_at 0 ((block_item.Declaration (declaration (specifier.Plain 15 plain.Int) ((variable 1 (named 19 (codes "p")) [] None) ∷ []))) ∷ (block_item.Statement (simple (simple_form.Assign (name (named 21 (codes "p"))) 22 None (call (named 23 (codes "f")) [])))) ∷ (block_item.Statement (return 27 (Some (number (figure 34 0 false))))) ∷ [])) ∷ (item.Prototype (heading (specifier.Plain 37 plain.Int) 0 (named 41 (codes "f")) ((parameter (specifier.Struct 43 (named 50 (codes "u"))) 1 (Some (named 53 (codes "p"))) None) ∷ []))) ∷ []) 56 ≡ fault kind.Undefined 23 ∷ fault kind.UnknownName 50 ∷ []
 unfolding EachRule
-name_before_count = simp judging refl
+undefined_header_behind = simp judging refl

@@ -1,5 +1,5 @@
 -- Items in order, and what is noted of them.
-use Rattle.std.proofs.Common.{◌≡◌, ℕ, ◌+◌, ◌<◌, suc, get_or, drop, drop-cons, add-one, length, List, [], ◌∷◌, ◌++◌, Option, Some, None, option_map, refl, ap, ◌∙◌, sym, append_assoc, append-nil, arith}
+use Rattle.std.proofs.Common.{◌≡◌, ℕ, ◌+◌, ◌<◌, get_or, drop, length, List, [], ◌∷◌, ◌++◌, Option, Some, None, option_map, refl, ap, ◌∙◌, sym, append_assoc, append-nil, arith}
 use Rattle.c_tree.specs.declared.tree.Item.{Item}
 use Rattle.c_kernel.specs.declared.program.Function.{Function}
 use Rattle.c_kernel.specs.declared.types.Struct.{Struct}
@@ -11,6 +11,7 @@ use Rattle.c_rules.proofs.Gathered.{joined}
 use Rattle.c_check.specs.Functions.{next_number}
 use Rattle.c_check.specs.Program.{item_judged, items_judged}
 use Rattle.c_check.specs.Structs.{with_item, all_structs}
+use Rattle.c_check.proofs.Nodes.{drop_next}
 
 -- where faults were added, nothing is found
 pub broken : {A : Type 0} (x : A) (before after faults : List Fault) → after ≡ before ++ faults → length before < length after → None ≡ sound faults x
@@ -30,16 +31,12 @@ module _ {A : Type 0} where
   none_more (Some xs) None = refl
   none_more (Some xs) (Some ys) = refl
 
--- the next of several, and those after it
-left : {A : Type 0} (xs : List A) (at : ℕ) (x : A) → at < length xs → x ≡ get_or xs at x → drop at xs ≡ x ∷ drop (at + 1) xs
-left xs at x within here = drop-cons xs at x within ∙ ap (λ y. y ∷ drop (suc at) xs) (sym here) ∙ ap (λ n. x ∷ drop n xs) (sym (add-one at))
-
 -- an item and those after it
 module _ (is : List Item) (at : ℕ) (i : Item) (within : at < length is) (here : i ≡ get_or is at i) where
   pub items_structs : (structs later : List Struct) → later ≡ with_item structs i → all_structs later (drop (at + 1) is) ≡ all_structs structs (drop at is)
   items_structs structs later added =
       ap (λ ss. all_structs ss (drop (at + 1) is)) added
-      ∙ ap (all_structs structs) (sym (left is at i within here))
+      ∙ ap (all_structs structs) (sym (drop_next is at i within here))
 
 module _ (functions : Bytes → Option Signature) (is : List Item) (at k next : ℕ) (structs passed later : List Struct) (i : Item)
     (within : at < length is) (here : i ≡ get_or is at i) (number : next ≡ next_number k i) (same : passed ≡ structs) (added : later ≡ with_item structs i) where
@@ -59,7 +56,7 @@ module _ (functions : Bytes → Option Signature) (is : List Item) (at k next : 
       ap (λ (j : Judged (List Function)). joined found j.found) follows
       ∙ ap (λ fs. joined fs rest.found) (xs ∙ ap (λ m. option_map (λ p. p.0 ++ p.1) (both all m)) (x ∙ ap (λ ss. (one ss).found) same))
       ∙ found_more all (one structs).found rest.found
-      ∙ ap (λ js. joined all (items_judged functions structs k js).found) (sym (left is at i within here))
+      ∙ ap (λ js. joined all (items_judged functions structs k js).found) (sym (drop_next is at i within here))
 
   pub items_faults : (noted faults : List Fault) → faults ≡ noted ++ (one passed).faults
       → faults ++ (after later next).faults ≡ noted ++ (items_judged functions structs k (drop at is)).faults
@@ -70,4 +67,4 @@ module _ (functions : Bytes → Option Signature) (is : List Item) (at k next : 
       ∙ ap (λ fs. fs ++ rest.faults) (x ∙ ap (λ ss. noted ++ (one ss).faults) same)
       ∙ append_assoc noted new rest.faults
       ∙ ap (λ fs. noted ++ fs) (sym (append-nil (new ++ rest.faults)) ∙ ap (λ fs. (new ++ rest.faults) ++ fs) (sym (none_more (one structs).found rest.found)))
-      ∙ ap (λ js. noted ++ (items_judged functions structs k js).faults) (sym (left is at i within here))
+      ∙ ap (λ js. noted ++ (items_judged functions structs k js).faults) (sym (drop_next is at i within here))

@@ -1,15 +1,12 @@
 pub mod SmallTrees
 pub mod Examples
-pub mod PointerExamples
-pub mod StructExamples
-pub mod TypedExamples
-pub mod MpiExamples
 pub mod Nodes
 pub mod Least
 pub mod TypedParts
 pub mod TypedExpressions
 pub mod TypedStatements
 pub mod TypedTree
+mod Regular
 pub mod Verdicts
 pub mod Tables
 pub mod InOrder

@@ -19,14 +19,16 @@ use Rattle.c_tree.specs.declared.tree.BlockItem.{BlockItem}
 use Rattle.c_tree.specs.declared.tree.Arm.{Arm}
 use Rattle.c_tree.specs.declared.tree.ForStart.{ForStart}
 use Rattle.c_tree.specs.declared.tree.SimpleStatement.{SimpleStatement}
-use Rattle.c_tree.specs.declared.tree.Mark.TheVariants as mark
 use Rattle.c_tree.specs.declared.tree.MpiCall.{MpiCall}
 use Rattle.c_tree.specs.declared.tree.Buffer.{Buffer}
 use Rattle.c_tree.specs.declared.tree.DatatypeWord.{DatatypeWord}
 use Rattle.c_tree.specs.declared.tree.Constant.{Constant}
-use Rattle.c_tree.specs.declared.tree.Access.{Access}
 use Rattle.c_tree.specs.declared.tree.MemberName.{MemberName}
 use Rattle.c_tree.specs.declared.tree.Link.{Link}
+use Rattle.c_tree.specs.declared.tree.Primary.{Primary}
+use Rattle.c_tree.specs.declared.tree.Primary.TheVariants as primary
+use Rattle.c_tree.specs.declared.tree.Suffix.{Suffix}
+use Rattle.c_tree.specs.declared.tree.Tree.{Tree}
 use Rattle.c_tree.specs.declared.tree.Expr.{Expr}
 use Rattle.c_tree.specs.declared.tree.Expr.TheFolds.{fold-roll-Expr, map-Expr}
 use Rattle.c_tree.specs.declared.tree.Expr.TheOpen.{Expr-F}
@@ -75,7 +77,7 @@ use Rattle.c_check.specs.Program.{judged_tree}
 -- ---- all that a tree's rules compute with
 
 unfoldable pub EachRule : Type 0
-unfolding rules.unary rules.negation rules.dereference rules.address rules.cast rules.size_of rules.index rules.dot rules.arrow rules.arithmetic rules.plus rules.minus rules.shift rules.comparison rules.logical rules.choice rules.call statement.assign statement.compound statement.returned statement.freed statement.printed statement.guarded calls.called
+unfolding rules.unary rules.negation rules.dereference rules.address rules.cast rules.size_of rules.index rules.dot rules.arrow rules.arithmetic rules.plus rules.minus rules.shift rules.comparison rules.logical rules.choice rules.call rules.misplaced statement.assign statement.compound statement.returned statement.freed statement.printed statement.guarded calls.called
 EachRule = Unit {0}
 
 -- ---- trees
@@ -104,29 +106,33 @@ variable stars name sizes value = record { stars = stars; name = name; sizes = s
 abbrev pub declaration : TypeSpecifier → List InitDeclarator → Declaration
 declaration t ds = record { specifier = t; declarators = ds }
 
+-- a primary expression, and what is selected from it
+abbrev pub path : Primary Expr → List (Suffix Expr) → Expr
+path p xs = roll-Expr (Expr-F.Postfix p xs)
+
 abbrev pub number : Number → Expr
-number n = roll-Expr (Expr-F.Number n)
+number n = path (primary.Number n) []
 
 abbrev pub character : ℕ → ℕ → Expr
-character at n = roll-Expr (Expr-F.Character at n)
+character at n = path (primary.Character at n) []
 
 abbrev pub word : ℕ → Constant → Expr
-word at c = roll-Expr (Expr-F.Constant at c)
+word at c = path (primary.Constant at c) []
 
 abbrev pub name : Name → Expr
-name n = roll-Expr (Expr-F.Name n)
+name n = path (primary.Name n) []
 
 abbrev pub call : Name → List Expr → Expr
-call n es = roll-Expr (Expr-F.Call n es)
+call n es = path (primary.Call n es) []
 
 abbrev pub allocated : ℕ → Expr → Expr
-allocated at e = roll-Expr (Expr-F.Malloc at e)
+allocated at e = path (primary.Malloc at e) []
 
 abbrev pub size : ℕ → TypeSpecifier → ℕ → Expr
 size at t stars = roll-Expr (Expr-F.SizeOf at (record { specifier = t; stars = stars }))
 
 abbrev pub group : ℕ → Expr → Expr
-group at e = roll-Expr (Expr-F.Group at e)
+group at e = path (primary.Group at e) []
 
 abbrev pub cast : ℕ → TypeSpecifier → ℕ → Expr → Expr
 cast at t stars e = roll-Expr (Expr-F.Cast at (record { specifier = t; stars = stars }) e)
@@ -134,32 +140,17 @@ cast at t stars e = roll-Expr (Expr-F.Cast at (record { specifier = t; stars = s
 abbrev pub prefix : ℕ → Operator → Expr → Expr
 prefix at o e = roll-Expr (Expr-F.Prefix at o e)
 
-abbrev pub index : Expr → ℕ → Expr → Expr
-index a at i = roll-Expr (Expr-F.Index a at i)
-
-abbrev pub member : Expr → ℕ → Access → MemberName → Expr
-member a at how n = roll-Expr (Expr-F.Member a at how n)
-
 abbrev pub link : Operator → Expr → Link Expr
 link o e = record { operator = o; operand = e }
 
 abbrev pub chain : Expr → List (Link Expr) → Expr
 chain a ls = roll-Expr (Expr-F.Chain a ls)
 
-abbrev pub choice : Expr → Expr → Expr → Expr
-choice c a b = roll-Expr (Expr-F.Choice c a b)
-
 abbrev pub block : ℕ → List (BlockItem Stmt) → Block Stmt
 block at items = record { at = at; items = items }
 
 abbrev pub empty : ℕ → Stmt
 empty at = roll-Stmt (Stmt-F.Empty at)
-
-abbrev pub break : ℕ → Stmt
-break at = roll-Stmt (Stmt-F.Break at)
-
-abbrev pub continue : ℕ → Stmt
-continue at = roll-Stmt (Stmt-F.Continue at)
 
 abbrev pub compound : Block Stmt → Stmt
 compound b = roll-Stmt (Stmt-F.Block b)
@@ -169,9 +160,6 @@ arm e x = record { test = e; then = x }
 
 abbrev pub branch : ℕ → Expr → Stmt → List (Arm Stmt) → Option Stmt → Stmt
 branch at e x arms last = roll-Stmt (Stmt-F.If at e x arms last)
-
-abbrev pub while : ℕ → Expr → Stmt → Stmt
-while at e x = roll-Stmt (Stmt-F.While at e x)
 
 abbrev pub do_while : ℕ → Stmt → Expr → Stmt
 do_while at x e = roll-Stmt (Stmt-F.DoWhile at x e)
@@ -187,9 +175,6 @@ print at format bytes es = roll-Stmt (Stmt-F.Print at (record { at = format; byt
 
 abbrev pub freed : ℕ → Expr → Stmt
 freed at e = roll-Stmt (Stmt-F.Free at e)
-
-abbrev pub marked : ℕ → Stmt
-marked at = roll-Stmt (Stmt-F.Mark (mark.Call at))
 
 abbrev pub datatype : ℕ → Datatype → DatatypeWord
 datatype at t = record { at = at; datatype = t }
@@ -220,12 +205,15 @@ pub ruleset judging = (seen_roll, walked_roll, walked, judged)
 abbrev pub fault : Kind → ℕ → Fault
 fault kind at = record { kind = kind; at = at }
 
-abbrev pub broken : List Item → ℕ → List Fault
-broken items length = (judged_tree (record { items = items }) length).faults
+-- in a text of this length, without the word MPI_ANY_SOURCE
+abbrev pub tree : List Item → ℕ → Tree
+tree items length = record { items = items; length = length; any_source = false }
 
--- in a text without the word MPI_ANY_SOURCE
+abbrev pub broken : List Item → ℕ → List Fault
+broken items length = (judged_tree (tree items length)).faults
+
 abbrev pub whole : List Item → ℕ → Judged Program
-whole items length = seen_as (checked.program_of (record { items = items }) false) (judged_tree (record { items = items }) length)
+whole items length = seen_as (checked.program_of (tree items length)) (judged_tree (tree items length))
 
 abbrev pub accepted : Program → Judged Program
 accepted p = record { faults = []; found = Some p }

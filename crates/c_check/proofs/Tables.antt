@@ -18,7 +18,7 @@ or_same None = refl
 or_same (Some k) = refl
 
 abbrev numbered : Signature → Option ℕ → Signature
-numbered f number = record { result = f.result; parameters = f.parameters; number = number }
+numbered f number = record f { number = number }
 
 -- ---- what is found after a write
 
@@ -55,7 +55,7 @@ module _ {X : Type 0} where
 -- ---- a header's entry
 
 module _ (es fs : List (Vec ℕ Global × Signature)) (k : Vec ℕ Global) (g f : Signature) (n : Option ℕ)
-    (written : fs ≡ insert_entry (λ x y. bytes_eq x.items y.items) es k (record { result = f.result; parameters = f.parameters; number = n }))
+    (written : fs ≡ insert_entry (λ x y. bytes_eq x.items y.items) es k (record f { number = n }))
     (first : f ≡ unwrap_or (lookup (λ x. bytes_eq k.items x.items) es) g)
     (number : n ≡ option_or f.number g.number) where
   abbrev whole : Signature

@@ -1,5 +1,5 @@
 -- An expression that breaks no rule has a typed form.
-use Rattle.std.proofs.Common.{◌≡◌, ℕ, List, [], ◌∷◌, ◌++◌, map, Option, Some, None, true, refl, sym, subst}
+use Rattle.std.proofs.Common.{◌≡◌, ℕ, List, [], ◌∷◌, ◌++◌, map, Bool, true, false, Option, Some, None, refl, ap, sym, subst, if◌then◌else◌}
 use Rattle.std.specs.Prelude.{is_some, option_map}
 use Rattle.c_tree.specs.declared.tree.Expr.{Expr}
 use Rattle.c_tree.specs.declared.tree.Expr.TheFolds.{fold-roll-Expr, ind-Expr, map-Expr}
@@ -12,10 +12,14 @@ use Rattle.c_tree.specs.declared.tree.Constant.TheVariants as word
 use Rattle.c_tree.specs.declared.tree.Link.{Link}
 use Rattle.c_tree.specs.declared.tree.MemberName.{MemberName}
 use Rattle.c_tree.specs.declared.tree.Name.{Name}
+use Rattle.c_tree.specs.declared.tree.Primary.{Primary}
+use Rattle.c_tree.specs.declared.tree.Primary.TheVariants as primary
+use Rattle.c_tree.specs.declared.tree.Suffix.{Suffix}
+use Rattle.c_tree.specs.declared.tree.Suffix.TheVariants as suffix
 use Rattle.c_tree.specs.declared.tree.TypeName.{TypeName}
 use Rattle.c_tree.specs.declared.token.Operator.{Operator}
 use Rattle.c_tree.specs.declared.token.Operator.TheVariants as operator
-use Rattle.c_tree.specs.declared.kind.Kind.TheVariants.{UnknownName, NotStruct}
+use Rattle.c_tree.specs.declared.kind.Kind.TheVariants.{UnknownName, NotStruct, CallPlace}
 use Rattle.c_kernel.specs.declared.types.CType.{CType}
 use Rattle.c_kernel.specs.declared.types.Member.{Member}
 use Rattle.c_kernel.specs.declared.types.Struct.{Struct}
@@ -26,18 +30,20 @@ use Rattle.c_rules.specs.declared.found.Form.{Form}
 use Rattle.c_rules.specs.declared.found.Form.TheVariants as form
 use Rattle.c_rules.specs.declared.found.Found.{Found}
 use Rattle.c_rules.specs.declared.found.Run.{Run}
+use Rattle.c_rules.specs.declared.found.Invocation.{Invocation}
 use Rattle.c_rules.specs.declared.found.Right.{Right}
 use Rattle.c_rules.specs.declared.found.Right.TheVariants as right_side
 use Rattle.c_rules.specs.declared.scope.Entity.{Entity}
 use Rattle.c_rules.specs.declared.scope.Entity.TheVariants.{Variable, Parameter}
 use Rattle.c_rules.specs.declared.signature.Signature.{Signature}
-use Rattle.c_rules.specs.Judged.{Judged, by, refused, both, as_part, together, perhaps}
+use Rattle.c_rules.specs.Judged.{Judged, by, refused, silent, both, as_part, together, perhaps}
 use Rattle.c_rules.specs.Rules as rules
 use Rattle.c_rules.specs.Scope.{Bytes, Scope, visible}
 use Rattle.c_rules.specs.Types.{member_bytes, member_at, target}
 use Rattle.c_check.specs.Expression as walk
-use Rattle.c_check.specs.Expression.{Called, Allocated, Seen, seen, node, judged, judged_all, parts, part_link, chain, whole_chain, whole_choice, whole_prefix, whole_index, whole_cast, named_type, function_of, callee, invoked, misplaced, right}
-use Rattle.c_check.proofs.TypedParts.{IsTold, AreTold, none_before, none_behind, both_some, map_some, told_by, told_refused, told_given, told_part, told_parts, told_as, told_together}
+use Rattle.c_check.specs.Expression.{Called, Allocated, Seen, seen, node, is_main, primary_of, suffix_of, suffixed, call_alone, call_in, malloc_alone, malloc_in, judged, judged_all, parts, part_link, chain, whole_chain, whole_choice, whole_prefix, whole_index, whole_cast, named_type, function_of, callee, invoked, misplaced, right}
+use Rattle.c_check.proofs.Least.{never}
+use Rattle.c_check.proofs.TypedParts.{IsTold, AreTold, none_before, none_behind, both_some, map_some, told_by, told_refused, told_after, told_given, told_part, told_parts, told_parts_where, told_as, told_together}
 
 -- ---- one node
 
@@ -110,7 +116,7 @@ module _ (structs : List Struct) where
 
   told_arrow : (a : Found) (n : MemberName) → IsTold (rules.arrow structs a n)
   unfolding rules.arrow
-  told_arrow a n = told_part (by (rules.arrow_rules a) (rules.target_place (rules.value a))) _ (told_by _ _) (λ p. told_selected a.at (target (rules.kind_of a)) p n)
+  told_arrow a n = told_part (by (rules.arrow_rules a) (rules.target_place a)) _ (told_by _ _) (λ p. told_selected a.at (target (rules.kind_of a)) p n)
 
   told_member : (how : Access) (a : Found) (n : MemberName) → IsTold (rules.member structs how a n)
   told_member access.Dot a n = told_dot a n
@@ -203,6 +209,14 @@ told_cast_of (Some c) h = told_as Some (walk.cast_of c) (told_as _ c.1 h)
 pub told_allocation : (m : Allocated) → OfMalloc (Some m) → IsTold (walk.allocation m)
 told_allocation m h = told_parts (perhaps walk.cast_of m.cast) m.bytes _ (told_cast_of m.cast h.0) h.1 (λ c b e. refl)
 
+-- each header breaks no rule
+abbrev pub IsSound : Option Signature → Type 0
+IsSound None = Unit {0}
+IsSound (Some f) = f.sound ≡ true
+
+abbrev pub AreSound : (Bytes → Option Signature) → Type 0
+AreSound functions = (name : Bytes) → IsSound (functions name)
+
 module _ (functions : Bytes → Option Signature) (structs : List Struct) (s : Scope) where
   told_signature : (n : Name) (f : Option Signature) → IsTold (elim f as (λ f. Judged Signature) [ Some f ↦ by [] f | None ↦ refused UnknownName n.at ])
   told_signature n (Some f) = λ e. refl
@@ -212,12 +226,31 @@ module _ (functions : Bytes → Option Signature) (structs : List Struct) (s : S
   told_function n (Some x) = told_refused _
   told_function n None = told_signature n (functions n.bytes)
 
-  pub told_invoked : (c : Called) → AreTold c.arguments → IsTold (invoked functions structs s c)
+  sound_signature : (n : Name) (f : Option Signature) (g : Signature) → IsSound f → (elim f as (λ f. Judged Signature) [ Some f ↦ by [] f | None ↦ refused UnknownName n.at ]).found ≡ Some g → g.sound ≡ true
+  sound_signature n (Some f) g sound is = subst (λ (o : Option Signature). IsSound o) is sound
+  sound_signature n None g sound is = absurd (never (ap is_some is))
+
+  sound_function : AreSound functions → (n : Name) (x : Option Entity) (f : Signature) → (function_of functions s n x).found ≡ Some f → f.sound ≡ true
+  sound_function sound n (Some x) f is = absurd (never (ap is_some is))
+  sound_function sound n None f is = sound_signature n (functions n.bytes) f (sound n.bytes) is
+
+  told_call : (main : Bool) (at called : ℕ) (f : Signature) (vs : List Found) → f.sound ≡ true → IsTold (rules.call main at called f vs)
   unfolding rules.call
-  told_invoked c all = told_parts (callee functions s c.name) (together c.arguments) _ (told_function c.name (visible s c.name.bytes)) (told_together c.arguments all) (λ f vs. told_by _ _)
+  told_call main at called f vs sound = told_part (by (rules.call_rules main called f vs) _) _ (told_by _ _) (λ i. known i f.sound sound)
+    where
+      known : (i : Invocation) (b : Bool) → b ≡ true → IsTold (if b then by [] i else silent)
+      known i true is e = refl
+      known i false is e = absurd (never is)
+
+  pub told_invoked : AreSound functions → (c : Called) → AreTold c.arguments → IsTold (invoked functions structs s c)
+  told_invoked sound c all =
+      let entity = visible s c.name.bytes in
+      told_parts_where (callee functions s c.name) (together c.arguments) (rules.call (is_main c.name) c.at c.name.at) (told_function c.name entity) (told_together c.arguments all)
+      (λ f vs is. told_call (is_main c.name) c.at c.name.at f vs (sound_function sound c.name entity f is))
 
   told_misplaced : (c : Called) → AreTold c.arguments → IsTold (misplaced functions structs s c)
-  told_misplaced c all = told_part (invoked functions structs s c) _ (told_invoked c all) (λ i. told_refused _)
+  unfolding rules.misplaced
+  told_misplaced c all = told_parts (callee functions s c.name) (together c.arguments) (rules.misplaced (is_main c.name) c.name.at) (told_function c.name (visible s c.name.bytes)) (told_together c.arguments all) (λ f vs. told_after {A = Found} (rules.call_rules (is_main c.name) c.name.at f vs) (refused CallPlace c.name.at) (told_refused _))
 
   abbrev Told : Type 0
   Told = (e : Expr) × IsToldSeen (seen functions structs s e)
@@ -233,23 +266,55 @@ module _ (functions : Bytes → Option Signature) (structs : List Struct) (s : S
   abbrev here : Told → Judged Found
   here a = judged functions structs s a.0
 
+  -- ---- a primary expression, and what is selected from it
+
+  abbrev IsToldSuffix : Suffix Seen → Type 0
+  IsToldSuffix (suffix.Index at i) = IsTold i.part
+  IsToldSuffix (suffix.Member at how n) = Unit {0}
+
+  told_suffix : (a : Judged Found) (x : Suffix Seen) → IsTold a → IsToldSuffix x → IsTold (suffix_of functions structs s a x)
+  told_suffix a (suffix.Index at i) h k = told_index structs a i.part h k
+  told_suffix a (suffix.Member at how n) h k = told_part a _ h (λ x. told_member structs how x n)
+
+  abbrev IsToldPrimary : Primary Seen → Type 0
+  IsToldPrimary p = IsTold (primary_of functions structs s p) × (OfCall (call_alone functions structs s p) × OfMalloc (malloc_alone functions structs s p))
+
+  alone_called : (p : Primary Seen) (xs : List (Suffix Seen)) → OfCall (call_alone functions structs s p) → OfCall (call_in functions structs s (Expr-F.Postfix p xs))
+  alone_called p [] h = h
+  alone_called p (x ∷ xs) h = tt
+
+  alone_malloc : (p : Primary Seen) (xs : List (Suffix Seen)) → OfMalloc (malloc_alone functions structs s p) → OfMalloc (malloc_in functions structs s (Expr-F.Postfix p xs))
+  alone_malloc p [] h = h
+  alone_malloc p (x ∷ xs) h = tt
+
+  module _ (h : Suffix Told → Suffix Expr) (k : Suffix Expr → Suffix Seen)
+      (of_index : (at : ℕ) (e : Told) → IsToldSuffix (k (h (suffix.Index at e)))) (of_member : (at : ℕ) (how : Access) (n : MemberName) → IsToldSuffix (k (h (suffix.Member at how n)))) where
+    told_suffixed : (a : Judged Found) → IsTold a → (xs : List (Suffix Told)) → IsTold (suffixed functions structs s a (map k (map h xs)))
+    told_suffixed a told [] = told
+    told_suffixed a told (suffix.Index at e ∷ xs) = told_suffixed (suffix_of functions structs s a (k (h (suffix.Index at e)))) (told_suffix a _ told (of_index at e)) xs
+    told_suffixed a told (suffix.Member at how n ∷ xs) = told_suffixed (suffix_of functions structs s a (k (h (suffix.Member at how n)))) (told_suffix a _ told (of_member at how n)) xs
+
+    told_postfix : (p : Primary Seen) → IsToldPrimary p → (xs : List (Suffix Told)) → IsToldSeen (node functions structs s (Expr-F.Postfix p (map k (map h xs))))
+    told_postfix p told xs = (told_suffixed (primary_of functions structs s p) told.0 xs, (alone_called p _ told.1.0, alone_malloc p _ told.1.1))
+
   layer : (y : Expr-F Told) → IsToldSeen (node functions structs s (map-Expr Expr Seen (seen functions structs s) (map-Expr Told Expr (λ e. e.0) y)))
-  layer (Expr-F.Number n) = (λ e. refl, (tt, tt))
-  layer (Expr-F.Character at v) = (λ e. refl, (tt, tt))
-  layer (Expr-F.Constant at c) = (told_constant at c, (tt, tt))
-  layer (Expr-F.Name n) = (told_name n.at (visible s n.bytes), (tt, tt))
-  layer (Expr-F.Call n es) = let all = told_arguments es in (told_misplaced _ all, (all, tt))
-  layer (Expr-F.Malloc at a) = (told_part (here a) _ a.1.0 (λ x. told_refused _), (tt, (tt, a.1.0)))
-  layer (Expr-F.SizeOf at t) = (told_part (named_type structs t) (rules.size_of structs at) (told_named_type structs t) (told_size_of structs at), (tt, tt))
-  layer (Expr-F.Group at a) =
+  layer (Expr-F.Postfix (primary.Number n) xs) = told_postfix _ _ (λ at e. e.1.0) (λ at how n. tt) (primary.Number n) (λ e. refl, (tt, tt)) xs
+  layer (Expr-F.Postfix (primary.Character at v) xs) = told_postfix _ _ (λ at e. e.1.0) (λ at how n. tt) (primary.Character at v) (λ e. refl, (tt, tt)) xs
+  layer (Expr-F.Postfix (primary.Constant at c) xs) = told_postfix _ _ (λ at e. e.1.0) (λ at how n. tt) (primary.Constant at c) (told_constant at c, (tt, tt)) xs
+  layer (Expr-F.Postfix (primary.Name n) xs) = told_postfix _ _ (λ at e. e.1.0) (λ at how n. tt) (primary.Name n) (told_name n.at (visible s n.bytes), (tt, tt)) xs
+  layer (Expr-F.Postfix (primary.Call n es) xs) =
+      let arguments = map (seen functions structs s) (map (λ (e : Told). e.0) es) in
+      let all = told_arguments es in
+      told_postfix _ _ (λ at e. e.1.0) (λ at how n. tt) (primary.Call n arguments) (told_misplaced (record { at = n.at; name = n; arguments = parts arguments }) all, (all, tt)) xs
+  layer (Expr-F.Postfix (primary.Malloc at a) xs) = told_postfix _ _ (λ at e. e.1.0) (λ at how n. tt) (primary.Malloc at (seen functions structs s a.0)) (told_part (here a) _ a.1.0 (λ x. told_refused _), (tt, (tt, a.1.0))) xs
+  layer (Expr-F.Postfix (primary.Group at a) xs) =
       let x = seen functions structs s a.0 in
-      (told_part x.part (rules.group at) a.1.0 (λ x e. refl), (called_in_group at x.called a.1.1.0, malloc_in_group at x.allocated a.1.1.1))
+      told_postfix _ _ (λ at e. e.1.0) (λ at how n. tt) (primary.Group at x) (told_part x.part (rules.group at) a.1.0 (λ x e. refl), (called_in_group at x.called a.1.1.0, malloc_in_group at x.allocated a.1.1.1)) xs
+  layer (Expr-F.SizeOf at t) = (told_part (named_type structs t) (rules.size_of structs at) (told_named_type structs t) (told_size_of structs at), (tt, tt))
   layer (Expr-F.Cast at t a) =
       let x = seen functions structs s a.0 in
       (told_cast structs at t x.part a.1.0, (tt, malloc_in_cast x.allocated at (named_type structs t) (told_named_type structs t) a.1.1.1))
   layer (Expr-F.Prefix at o a) = (told_prefix structs at o (here a) a.1.0, (tt, tt))
-  layer (Expr-F.Index a at i) = (told_index structs (here a) (here i) a.1.0 i.1.0, (tt, tt))
-  layer (Expr-F.Member a at how n) = (told_part (here a) _ a.1.0 (λ x. told_member structs how x n), (tt, tt))
   layer (Expr-F.Chain first rest) = (told_whole_chain structs (here first) _ first.1.0 (told_operands _ _ (λ l. l.operand.1.0) rest), (tt, tt))
   layer (Expr-F.Choice c a b) = (told_whole_choice (here c) (here a) (here b) c.1.0 a.1.0 b.1.0, (tt, tt))
 
@@ -265,12 +330,12 @@ module _ (functions : Bytes → Option Signature) (structs : List Struct) (s : S
   told_expressions [] = tt
   told_expressions (e ∷ es) = (told_expression e, told_expressions es)
 
-  told_right_of : (x : Seen) → IsToldSeen x → IsTold (walk.right_of functions structs s x)
-  told_right_of x h = of_malloc x.allocated h.1.1
+  told_right_of : AreSound functions → (x : Seen) → IsToldSeen x → IsTold (walk.right_of functions structs s x)
+  told_right_of sound x h = of_malloc x.allocated h.1.1
     where
       of_called : (c : Option Called) → OfCall c → IsTold (elim c as (λ c. Judged Right) [ None ↦ as_part right_side.Value x.part | Some c ↦ as_part right_side.Result (invoked functions structs s c) ])
       of_called None all = told_as right_side.Value x.part h.0
-      of_called (Some c) all = told_as right_side.Result (invoked functions structs s c) (told_invoked c all)
+      of_called (Some c) all = told_as right_side.Result (invoked functions structs s c) (told_invoked sound c all)
 
       of_malloc : (m : Option Allocated) → OfMalloc m → IsTold (elim m as (λ m. Judged Right) [
         | Some m ↦ as_part right_side.Memory (walk.allocation m)
@@ -279,5 +344,5 @@ module _ (functions : Bytes → Option Signature) (structs : List Struct) (s : S
       of_malloc None k = of_called x.called h.1.0
       of_malloc (Some m) k = told_as right_side.Memory (walk.allocation m) (told_allocation m k)
 
-  pub told_right : (e : Expr) → IsTold (right functions structs s e)
-  told_right e = told_right_of (seen functions structs s e) (told_seen e)
+  pub told_right : AreSound functions → (e : Expr) → IsTold (right functions structs s e)
+  told_right sound e = told_right_of sound (seen functions structs s e) (told_seen e)

@@ -63,6 +63,18 @@ told_part a n h k e =
     let rest = (given a.found n).faults in
     told_given a.found n (h (none_before a.faults rest e)) k (none_behind a.faults rest e)
 
+-- where what may be found of the first is known
+pub told_parts_where : {A B C : Type 0} (a : Judged A) (b : Judged B) (n : A → B → Judged C) → IsTold a → IsTold b → ((x : A) (y : B) → a.found ≡ Some x → IsTold (n x y)) → IsTold (of_parts a b n)
+told_parts_where {A = A} {B = B} a b n h k m e =
+    let rest = (given (both a.found b.found) (λ p. n p.0 p.1)).faults in
+    let none = none_before (a.faults ++ b.faults) rest e in
+    found a.found b.found refl (both_some a.found b.found (h (none_before a.faults b.faults none)) (k (none_behind a.faults b.faults none))) (none_behind (a.faults ++ b.faults) rest e)
+  where
+    found : (x : Option A) (y : Option B) → a.found ≡ x → is_some (both x y) ≡ true → IsTold (given (both x y) (λ p. n p.0 p.1))
+    found None y is some e = absurd (never some)
+    found (Some x) None is some e = absurd (never some)
+    found (Some x) (Some y) is some e = m x y is e
+
 pub told_parts : {A B C : Type 0} (a : Judged A) (b : Judged B) (n : A → B → Judged C) → IsTold a → IsTold b → ((x : A) (y : B) → IsTold (n x y)) → IsTold (of_parts a b n)
 told_parts a b n h k m e =
     let rest = (given (both a.found b.found) (λ p. n p.0 p.1)).faults in

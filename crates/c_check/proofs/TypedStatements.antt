@@ -39,7 +39,7 @@ use Rattle.c_check.specs.Mpi as mpi
 use Rattle.c_check.specs.Statement as walk
 use Rattle.c_check.specs.Statement.{Walk, Node, walk_all, walk_as, scoped, walked, statement_node}
 use Rattle.c_check.proofs.TypedParts.{IsTold, map_some, told_by, told_refused, told_after, told_part, told_parts, told_pair, told_more, told_together, told_perhaps}
-use Rattle.c_check.proofs.TypedExpressions.{IsToldSeen, told_link, told_allocation, told_invoked, told_seen, told_expression, told_expressions, told_right}
+use Rattle.c_check.proofs.TypedExpressions.{AreSound, IsToldSeen, told_link, told_allocation, told_invoked, told_seen, told_expression, told_expressions, told_right}
 
 -- ---- what stands at once
 
@@ -50,7 +50,7 @@ told_assign structs a r = told_by _ _
 told_compound : (structs : List Struct) (o : Operator) (a v : Found) → IsTold (walk.compound structs o a v)
 unfolding walk.compound
 told_compound structs o a v =
-    told_parts (by (walk.place_rules a) a) (link structs o (begin a) v) (walk.updated structs v.at) (told_by _ _) (told_link structs o (begin a) v) (λ x run. told_by _ _)
+    told_parts (by (walk.place_rules a) a) (link structs o (begin a) v) _ (told_by _ _) (told_link structs o (begin a) v) (λ x run. told_by _ _)
 
 told_stepped : (structs : List Struct) (how : Step) (a : Found) → IsTold (walk.stepped structs how a)
 told_stepped structs how a = told_compound structs (walk.step_operator how) a _
@@ -97,7 +97,7 @@ told_each w h (x ∷ xs) = (h x, told_each w h xs)
 pub told_walk_as : {A B : Type 0} (f : A → B) (w : Walk A) → IsToldWalk w → IsToldWalk (walk_as f w)
 told_walk_as f w h s = told_form f (w s).judged (h s)
 
-module _ (functions : Bytes → Option Signature) (structs : List Struct) where
+module _ (functions : Bytes → Option Signature) (structs : List Struct) (sound : AreSound functions) where
   told_test : (s : Scope) (e : Expr) → IsTold (walk.condition functions structs s e)
   told_test s e = told_part (judged functions structs s e) walk.condition_of (told_expression functions structs s e) told_condition
 
@@ -111,7 +111,7 @@ module _ (functions : Bytes → Option Signature) (structs : List Struct) where
 
       of_called : (c : Option Called) → IsToldSeen (record { part = part; called = c; allocated = None }) → IsTold (walk.call_statement part (option_map (invoked functions structs s) c))
       of_called None all = told_part part _ all.0 (λ a. told_refused _)
-      of_called (Some c) all = told_part (invoked functions structs s c) walk.called (told_invoked functions structs s c all.1.0) (λ i e. refl)
+      of_called (Some c) all = told_part (invoked functions structs s c) walk.called (told_invoked functions structs s sound c all.1.0) (λ i e. refl)
 
       of_malloc : (m : Option Allocated) → IsToldSeen (record { part = part; called = x.called; allocated = m }) → IsTold (walk.expression_statement part (option_map (invoked functions structs s) x.called) m)
       of_malloc None all = of_called x.called all
@@ -119,7 +119,7 @@ module _ (functions : Bytes → Option Signature) (structs : List Struct) where
 
   told_simple : (s : Scope) (x : SimpleStatement) → IsTold (walk.simple functions structs s x)
   told_simple s (simple_form.Expression e) = told_call s (seen functions structs s e) (told_seen functions structs s e)
-  told_simple s (simple_form.Assign a at None e) = told_parts (judged functions structs s a) (right functions structs s e) (walk.assign structs) (told_expression functions structs s a) (told_right functions structs s e) (told_assign structs)
+  told_simple s (simple_form.Assign a at None e) = told_parts (judged functions structs s a) (right functions structs s e) (walk.assign structs) (told_expression functions structs s a) (told_right functions structs s sound e) (told_assign structs)
   told_simple s (simple_form.Assign a at (Some o) e) = told_parts (judged functions structs s a) (judged functions structs s e) (walk.compound structs o) (told_expression functions structs s a) (told_expression functions structs s e) (told_compound structs o)
   told_simple s (simple_form.Postfix a at how) = told_part (judged functions structs s a) (walk.stepped structs how) (told_expression functions structs s a) (told_stepped structs how)
   told_simple s (simple_form.Prefix at how a) = told_part (judged functions structs s a) (walk.stepped structs how) (told_expression functions structs s a) (told_stepped structs how)
@@ -137,7 +137,7 @@ module _ (functions : Bytes → Option Signature) (structs : List Struct) where
 
   told_initial : (s : Scope) (v : Found) (e : Option Expr) (number : ℕ) → IsTold (walk.initial functions structs s v e number)
   told_initial s v None number = λ e. refl
-  told_initial s v (Some x) number = told_part (right functions structs s x) (walk.assign structs v) (told_right functions structs s x) (told_assign structs v)
+  told_initial s v (Some x) number = told_part (right functions structs s x) (walk.assign structs v) (told_right functions structs s sound x) (told_assign structs v)
 
   told_variable : (t : TypeSpecifier) (d : InitDeclarator) → IsToldWalk (walk.variable_walk functions structs t d)
   told_variable t d s =

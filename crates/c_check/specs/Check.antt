@@ -1,5 +1,5 @@
 -- What a tree is, and what the checker's answer says of it.
-use Rattle.std.specs.Prelude.{ℕ, Bool, Option, Some, None, Result, Ok, Err}
+use Rattle.std.specs.Prelude.{ℕ, Option, Some, None, Result, Ok, Err}
 use Rattle.c_tree.specs.declared.tree.Tree.{Tree}
 use Rattle.c_tree.specs.declared.kind.Kind.{Kind}
 use Rattle.c_kernel.specs.declared.program.Program.{Program}
@@ -12,10 +12,9 @@ pub data Verdict : Type 0 where
   Accepted : (program : Program) → Verdict
   Refused : (kind : Kind) (at : ℕ) → Verdict
 
--- of a text of this length, which has the word MPI_ANY_SOURCE or not
-abbrev pub Judges : Tree → ℕ → Bool → Verdict → Type 0
-Judges tree length any (Accepted program) = Accepts tree length any program
-Judges tree length any (Refused kind at) = Refuses tree length (record { kind = kind; at = at })
+abbrev pub Judges : Tree → Verdict → Type 0
+Judges tree (Accepted program) = Accepts tree program
+Judges tree (Refused kind at) = Refuses tree (record { kind = kind; at = at })
 
 -- what an answer says; nothing, where memory ran out
 abbrev pub said : Result Program CheckFault → Option Verdict

@@ -1,17 +1,21 @@
 -- What an expression is found to be, where names are in scope.
-use Rattle.std.specs.Prelude.{ℕ, List, [], ◌∷◌, ◌++◌, map, Option, Some, None, option_map}
+use Rattle.std.specs.Prelude.{ℕ, Bool, List, [], ◌∷◌, ◌++◌, map, Option, Some, None, option_map}
 use Rattle.std.specs.Str.{bytes_eq}
 use Rattle.c_tree.specs.declared.tree.Expr.{Expr}
 use Rattle.c_tree.specs.declared.tree.Expr.TheFolds.{fold-Expr}
 use Rattle.c_tree.specs.declared.tree.Expr.TheOpen.{Expr-F}
 use Rattle.c_tree.specs.declared.tree.Expr.TheOpen as expr
 use Rattle.c_tree.specs.declared.tree.Link.{Link}
+use Rattle.c_tree.specs.declared.tree.Primary.{Primary}
+use Rattle.c_tree.specs.declared.tree.Primary.TheVariants as primary
+use Rattle.c_tree.specs.declared.tree.Suffix.{Suffix}
+use Rattle.c_tree.specs.declared.tree.Suffix.TheVariants as suffix
 use Rattle.c_tree.specs.declared.tree.Name.{Name}
 use Rattle.c_tree.specs.declared.tree.MemberName.{MemberName}
 use Rattle.c_tree.specs.declared.tree.Access.{Access}
 use Rattle.c_tree.specs.declared.tree.TypeName.{TypeName}
 use Rattle.c_tree.specs.declared.token.Operator.{Operator}
-use Rattle.c_tree.specs.declared.kind.Kind.TheVariants.{UnknownName, CallPlace, MallocPlace}
+use Rattle.c_tree.specs.declared.kind.Kind.TheVariants.{UnknownName, MallocPlace}
 use Rattle.c_kernel.specs.declared.types.CType.{CType}
 use Rattle.c_kernel.specs.declared.types.Struct.{Struct}
 use Rattle.c_rules.specs.declared.found.Found.{Found}
@@ -136,15 +140,16 @@ module _ (functions : Bytes → Option Signature) (s : Scope) where
   abbrev pub callee : Name → Judged Signature
   callee n = function_of n (visible s n.bytes)
 
+abbrev pub is_main : Name → Bool
+is_main n = bytes_eq n.bytes rules.main_name
+
 module _ (functions : Bytes → Option Signature) (structs : List Struct) (s : Scope) where
   abbrev pub invoked : Called → Judged Invocation
-  invoked c =
-      of_parts (callee functions s c.name) (together c.arguments)
-      (rules.call (bytes_eq c.name.bytes rules.main_name) c.at c.name.at)
+  invoked c = of_parts (callee functions s c.name) (together c.arguments) (rules.call (is_main c.name) c.at c.name.at)
 
   -- a call stands as a statement or the whole right side of =, and so is no part
   abbrev pub misplaced : Called → Judged Found
-  misplaced c = of_part (invoked c) (λ i. refused CallPlace c.name.at)
+  misplaced c = of_parts (callee functions s c.name) (together c.arguments) (rules.misplaced (is_main c.name) c.name.at)
 
   -- a malloc stands as the whole right side of =, and so is no part
   abbrev pub no_part : ℕ → Judged Found → Judged Found
@@ -152,32 +157,50 @@ module _ (functions : Bytes → Option Signature) (structs : List Struct) (s : S
 
   -- ---- the nodes
 
+  abbrev pub primary_of : Primary Seen → Judged Found
+  primary_of (primary.Number n) = rules.number n
+  primary_of (primary.Character at v) = rules.character at v
+  primary_of (primary.Constant at c) = rules.constant_word at c
+  primary_of (primary.Name n) = rules.name n.at (visible s n.bytes)
+  primary_of (primary.Call n arguments) = misplaced (record { at = n.at; name = n; arguments = parts arguments })
+  primary_of (primary.Malloc at a) = no_part at a.part
+  primary_of (primary.Group at a) = of_part a.part (rules.group at)
+
+  -- what is selected from an operand, from the left
+  abbrev pub suffix_of : Judged Found → Suffix Seen → Judged Found
+  suffix_of a (suffix.Index at i) = whole_index structs a i.part
+  suffix_of a (suffix.Member at how n) = whole_member structs a how n
+
+  abbrev pub suffixed : Judged Found → List (Suffix Seen) → Judged Found
+  suffixed a [] = a
+  suffixed a (x ∷ xs) = suffixed (suffix_of a x) xs
+
   abbrev pub part_of : Expr-F Seen → Judged Found
-  part_of (expr.Number n) = rules.number n
-  part_of (expr.Character at v) = rules.character at v
-  part_of (expr.Constant at c) = rules.constant_word at c
-  part_of (expr.Name n) = rules.name n.at (visible s n.bytes)
-  part_of (expr.Call n arguments) = misplaced (record { at = n.at; name = n; arguments = parts arguments })
-  part_of (expr.Malloc at a) = no_part at a.part
+  part_of (expr.Postfix p suffixes) = suffixed (primary_of p) suffixes
   part_of (expr.SizeOf at t) = of_part (named_type structs t) (rules.size_of structs at)
-  part_of (expr.Group at a) = of_part a.part (rules.group at)
   part_of (expr.Cast at t a) = whole_cast at (named_type structs t) a.part
   part_of (expr.Prefix at o a) = whole_prefix structs at o a.part
-  part_of (expr.Index a at i) = whole_index structs a.part i.part
-  part_of (expr.Member a at how n) = whole_member structs a.part how n
   part_of (expr.Chain first rest) = whole_chain structs first.part (map part_link rest)
   part_of (expr.Choice c a b) = whole_choice c.part a.part b.part
 
   -- parentheses are no part of a call
+  abbrev pub call_alone : Primary Seen → Option Called
+  call_alone (primary.Call n arguments) = Some (record { at = n.at; name = n; arguments = parts arguments })
+  call_alone (primary.Group at a) = option_map (in_group at) a.called
+  call_alone _ = None
+
   abbrev pub call_in : Expr-F Seen → Option Called
-  call_in (expr.Call n arguments) = Some (record { at = n.at; name = n; arguments = parts arguments })
-  call_in (expr.Group at a) = option_map (in_group at) a.called
+  call_in (expr.Postfix p []) = call_alone p
   call_in _ = None
 
   -- nor of a malloc, nor is its cast
+  abbrev pub malloc_alone : Primary Seen → Option Allocated
+  malloc_alone (primary.Malloc at a) = Some (record { at = at; malloc = at; cast = None; bytes = a.part })
+  malloc_alone (primary.Group at a) = option_map (grouped at) a.allocated
+  malloc_alone _ = None
+
   abbrev pub malloc_in : Expr-F Seen → Option Allocated
-  malloc_in (expr.Malloc at a) = Some (record { at = at; malloc = at; cast = None; bytes = a.part })
-  malloc_in (expr.Group at a) = option_map (grouped at) a.allocated
+  malloc_in (expr.Postfix p []) = malloc_alone p
   malloc_in (expr.Cast at t a) = cast_before a.allocated at (named_type structs t)
   malloc_in _ = None
 
@@ -190,6 +213,29 @@ module _ (functions : Bytes → Option Signature) (structs : List Struct) (s : S
   -- an expression that is a part of another or of a statement
   abbrev pub judged : Expr → Judged Found
   judged e = (seen e).part
+
+  -- a primary expression, and what is selected from an operand that is found to be this
+  abbrev pub seen_primary : Primary Expr → Primary Seen
+  seen_primary (primary.Number n) = primary.Number n
+  seen_primary (primary.Character at v) = primary.Character at v
+  seen_primary (primary.Constant at c) = primary.Constant at c
+  seen_primary (primary.Name n) = primary.Name n
+  seen_primary (primary.Call n arguments) = primary.Call n (map seen arguments)
+  seen_primary (primary.Malloc at e) = primary.Malloc at (seen e)
+  seen_primary (primary.Group at e) = primary.Group at (seen e)
+
+  abbrev pub judged_primary : Primary Expr → Judged Found
+  judged_primary p = primary_of (seen_primary p)
+
+  abbrev pub seen_suffix : Suffix Expr → Suffix Seen
+  seen_suffix (suffix.Index at e) = suffix.Index at (seen e)
+  seen_suffix (suffix.Member at how n) = suffix.Member at how n
+
+  abbrev pub judged_suffix : Option Found → Suffix Expr → Judged Found
+  judged_suffix a x = suffix_of (record { faults = []; found = a }) (seen_suffix x)
+
+  abbrev pub judged_suffixes : Option Found → List (Suffix Expr) → Judged Found
+  judged_suffixes a xs = suffixed (record { faults = []; found = a }) (map seen_suffix xs)
 
   -- several, a chain's operands, a call and a malloc
   abbrev pub judged_all : List Expr → List (Judged Found)

@@ -1,5 +1,5 @@
 -- The functions that can be called, and the rules of their headers (C99 6.7.5.3, 6.9.1).
-use Rattle.std.specs.Prelude.{ℕ, suc, Bool, true, false, not, ◌||◌, ◌&&◌, List, [], ◌∷◌, ◌++◌, map, nat_eq, Option, Some, None, is_some, is_none, if◌then◌else◌}
+use Rattle.std.specs.Prelude.{ℕ, suc, Bool, true, false, not, ◌||◌, ◌&&◌, List, [], ◌∷◌, ◌++◌, map, length, nat_eq, ◌==◌, Option, Some, None, is_some, is_none, if◌then◌else◌}
 use Rattle.std.specs.Option.{option_or}
 use Rattle.std.specs.Str.{bytes_eq}
 use Rattle.c_tree.specs.declared.tree.Item.{Item}
@@ -75,52 +75,7 @@ are_mains (p ∷ q ∷ r ∷ ps) = false
 abbrev pub is_mains : Heading → Bool
 is_mains h = is_word h.specifier word.Int && nat_eq h.stars 0 && are_mains (parameters_of h.parameters)
 
--- ---- the functions that can be called, wherever they stand
-
-abbrev pub heading_in : Item → Option Heading
-heading_in (item.Include at header) = None
-heading_in (item.Struct at name members) = None
-heading_in (item.Prototype h) = Some h
-heading_in (item.Function h body) = Some h
-
-abbrev pub is_definition : Item → Bool
-is_definition (item.Include at header) = false
-is_definition (item.Struct at name members) = false
-is_definition (item.Prototype h) = false
-is_definition (item.Function h body) = true
-
--- definitions are numbered in the text's order
-abbrev pub next_number : ℕ → Item → ℕ
-next_number k i = if is_definition i then suc k else k
-
-abbrev pub signature_of : List Struct → ℕ → Bool → Heading → Signature
-signature_of structs k defined h = record {
-  result = result_of structs h;
-  parameters = types_of structs h;
-  number = if defined then Some k else None;
-}
-
--- what an item says of a name
-abbrev pub said_by : List Struct → ℕ → Bool → Option Heading → Bytes → Option Signature
-said_by structs k defined None name = None
-said_by structs k defined (Some h) name = if bytes_eq h.name.bytes name then Some (signature_of structs k defined h) else None
-
--- the first header gives the types, and the first definition the number
-abbrev pub joined : Option Signature → Option Signature → Option Signature
-joined None later = later
-joined (Some f) None = Some f
-joined (Some f) (Some g) = Some (record { result = f.result; parameters = f.parameters; number = option_or f.number g.number })
-
--- of the items that follow these structs and k definitions
-abbrev pub signatures : List Struct → ℕ → List Item → Bytes → Option Signature
-signatures structs k [] name = None
-signatures structs k (i ∷ is) name = joined (said_by structs k (is_definition i) (heading_in i) name) (signatures (with_item structs i) (next_number k i) is name)
-
-abbrev pub number_in : Option Signature → Option ℕ
-number_in None = None
-number_in (Some f) = f.number
-
--- ---- the rules of a header
+-- ---- the rules of a header by itself
 
 -- a parameter's name, or its type where it has none
 abbrev pub parameter_place : Parameter → ℕ
@@ -165,14 +120,72 @@ abbrev pub with_parameters : List Struct → Bool → Scope → List Parameter �
 with_parameters structs main s [] = s
 with_parameters structs main s (p ∷ ps) = with_parameters structs main (with_parameter structs main p s) ps
 
--- against the first header of its name
-abbrev pub differs : List Struct → Heading → Option Signature → Bool
-differs structs h None = false
-differs structs h (Some f) = not (same_type (result_of structs h) f.result && same_types (types_of structs h) f.parameters)
+-- its parts: the result's specifier and the parameters
+abbrev pub parts_rules : List Struct → Bool → Heading → List Fault
+parts_rules structs defined h =
+    specifier_rules structs None h.specifier
+    ++ parameters_rules structs (is_main h) defined start (parameters_of h.parameters)
 
 -- a struct, or a pointer to void
 abbrev pub is_bad_result : CType → Bool
 is_bad_result t = is_struct t || is_null t
+
+-- no rule is broken but by other headers
+abbrev pub is_sound : List Struct → Bool → Heading → Bool
+is_sound structs defined h = (length (parts_rules structs defined h) == 0) && not (is_bad_result (result_of structs h))
+
+-- ---- the functions that can be called, wherever they stand
+
+abbrev pub heading_in : Item → Option Heading
+heading_in (item.Include at header) = None
+heading_in (item.Struct at name members) = None
+heading_in (item.Prototype h) = Some h
+heading_in (item.Function h body) = Some h
+
+abbrev pub is_definition : Item → Bool
+is_definition (item.Include at header) = false
+is_definition (item.Struct at name members) = false
+is_definition (item.Prototype h) = false
+is_definition (item.Function h body) = true
+
+-- definitions are numbered in the text's order
+abbrev pub next_number : ℕ → Item → ℕ
+next_number k i = if is_definition i then suc k else k
+
+abbrev pub signature_of : List Struct → ℕ → Bool → Heading → Signature
+signature_of structs k defined h = record {
+  result = result_of structs h;
+  parameters = types_of structs h;
+  sound = is_sound structs defined h;
+  number = if defined then Some k else None;
+}
+
+-- what an item says of a name
+abbrev pub said_by : List Struct → ℕ → Bool → Option Heading → Bytes → Option Signature
+said_by structs k defined None name = None
+said_by structs k defined (Some h) name = if bytes_eq h.name.bytes name then Some (signature_of structs k defined h) else None
+
+-- the first header gives the types, and the first definition the number
+abbrev pub joined : Option Signature → Option Signature → Option Signature
+joined None later = later
+joined (Some f) None = Some f
+joined (Some f) (Some g) = Some (record f { number = option_or f.number g.number })
+
+-- of the items that follow these structs and k definitions
+abbrev pub signatures : List Struct → ℕ → List Item → Bytes → Option Signature
+signatures structs k [] name = None
+signatures structs k (i ∷ is) name = joined (said_by structs k (is_definition i) (heading_in i) name) (signatures (with_item structs i) (next_number k i) is name)
+
+abbrev pub number_in : Option Signature → Option ℕ
+number_in None = None
+number_in (Some f) = f.number
+
+-- ---- the rules of a header
+
+-- against the first header of its name
+abbrev pub differs : List Struct → Heading → Option Signature → Bool
+differs structs h None = false
+differs structs h (Some f) = not (same_type (result_of structs h) f.result && same_types (types_of structs h) f.parameters)
 
 -- a second definition of its name
 abbrev pub is_second : ℕ → Bool → Option ℕ → Bool
@@ -184,12 +197,6 @@ abbrev pub name_rules : (Bytes → Option Signature) → ℕ → Bool → Headin
 name_rules functions k defined h =
     breaks (is_second k defined (number_in (functions h.name.bytes))) Redeclared h.name.at
     ++ breaks (is_main h && not (defined && is_mains h)) BadMain h.name.at
-
--- its parts: the result's specifier and the parameters
-abbrev pub parts_rules : List Struct → Bool → Heading → List Fault
-parts_rules structs defined h =
-    specifier_rules structs None h.specifier
-    ++ parameters_rules structs (is_main h) defined start (parameters_of h.parameters)
 
 module _ (functions : Bytes → Option Signature) (structs : List Struct) where
   -- its types as a whole

@@ -61,21 +61,20 @@ items_judged functions structs k [] = by [] []
 items_judged functions structs k (i ∷ is) =
     of_parts (item_judged functions structs k i) (items_judged functions (with_item structs i) (next_number k i) is) (λ fs gs. by [] (fs ++ gs))
 
--- ---- the whole, in a text of this length
+-- ---- the whole
 
 abbrev pub main_in : ℕ → Option ℕ → Judged ℕ
 main_in length None = refused kind.NoMain length
 main_in length (Some k) = by [] k
 
 -- the functions, and the number of main
-abbrev pub judged_tree : Tree → ℕ → Judged (List Function × ℕ)
-judged_tree tree length =
+abbrev pub judged_tree : Tree → Judged (List Function × ℕ)
+judged_tree tree =
     let functions = signatures first_structs 0 tree.items in
-    pair_of (items_judged functions first_structs 0 tree.items) (main_in length (number_in (functions main_name)))
+    pair_of (items_judged functions first_structs 0 tree.items) (main_in tree.length (number_in (functions main_name)))
 
--- of a text that has the word MPI_ANY_SOURCE, or not
-abbrev pub program_of : Tree → Bool → List Function × ℕ → Program
-program_of tree any parts = record { structs = all_structs first_structs tree.items; functions = parts.0; main = parts.1; any_source = any }
+abbrev pub program_of : Tree → List Function × ℕ → Program
+program_of tree parts = record { structs = all_structs first_structs tree.items; functions = parts.0; main = parts.1; any_source = tree.any_source }
 
 -- ---- the first fault
 
@@ -132,9 +131,9 @@ abbrev pub IsLeast : List Fault → Fault → Type 0
 IsLeast faults f = Among faults f × NonePrecedes faults f
 
 -- a tree that breaks no rule, with its typed program
-abbrev pub Accepts : Tree → ℕ → Bool → Program → Type 0
-Accepts tree length any program = ((judged_tree tree length).faults ≡ []) × (option_map (program_of tree any) (judged_tree tree length).found ≡ Some program)
+abbrev pub Accepts : Tree → Program → Type 0
+Accepts tree program = ((judged_tree tree).faults ≡ []) × (option_map (program_of tree) (judged_tree tree).found ≡ Some program)
 
 -- a tree that breaks one
-abbrev pub Refuses : Tree → ℕ → Fault → Type 0
-Refuses tree length fault = IsLeast (judged_tree tree length).faults fault
+abbrev pub Refuses : Tree → Fault → Type 0
+Refuses tree fault = IsLeast (judged_tree tree).faults fault

@@ -1,5 +1,5 @@
 -- The rules at each statement and declaration (C99 6.7, 6.8), and what it is found to be.
-use Rattle.std.specs.Prelude.{ℕ, pos, Bool, true, false, not, ◌||◌, ◌&&◌, List, [], ◌∷◌, ◌++◌, map, length, Option, Some, None, is_some, is_none, option_map, if◌then◌else◌}
+use Rattle.std.specs.Prelude.{ℕ, pos, Bool, true, false, not, ◌||◌, List, [], ◌∷◌, ◌++◌, map, length, Option, Some, None, is_some, is_none, option_map, if◌then◌else◌}
 use Rattle.c_tree.specs.declared.token.Operator.{Operator}
 use Rattle.c_tree.specs.declared.token.Operator.TheVariants as operator
 use Rattle.c_tree.specs.declared.tree.TypeSpecifier.{TypeSpecifier}
@@ -74,7 +74,7 @@ place_in (form.Place kind p) = p
 -- a malloc for a pointer of the type (7.20.3.3); a cast before it is to this type
 abbrev pub cast_rules : CType → Option Cast → List Fault
 cast_rules t None = []
-cast_rules t (Some c) = breaks (is_target t && not (same_type c.kind t)) TypeMismatch c.at
+cast_rules t (Some c) = breaks (not (same_type c.kind t)) TypeMismatch c.at
 
 abbrev pub memory_rules : CType → Allocation → List Fault
 memory_rules t m =
@@ -99,13 +99,13 @@ unfoldable pub assign : List Struct → Found → Right → Judged Action
 assign structs a r = by (place_rules a ++ right_rules (kind_of a) r) (stored structs (place_in a.form) (kind_of a) r)
 
 -- a o= v is a = a o v
-abbrev pub updated : List Struct → ℕ → Found → Run → Judged Action
-updated structs at a run =
-    by (breaks (clash (kind_of a) false run.kind) TypeMismatch at)
-    (stored structs (place_in a.form) (kind_of a) (right_side.Value (plain run.at run.kind (closed run))))
+abbrev pub updated : List Struct → ℕ → Place Term → CType → Run → Judged Action
+updated structs at p t run =
+    by (breaks (clash t false run.kind) TypeMismatch at)
+    (stored structs p t (right_side.Value (plain run.at run.kind (closed run))))
 
 unfoldable pub compound : List Struct → Operator → Found → Found → Judged Action
-compound structs o a v = of_parts (by (place_rules a) a) (link structs o (begin a) v) (updated structs v.at)
+compound structs o a v = of_parts (by (place_rules a) a) (link structs o (begin a) v) (λ x. updated structs v.at (place_in x.form) (kind_of x))
 
 -- a++ is a = a + 1
 abbrev pub step_operator : Step → Operator

@@ -15,13 +15,13 @@ use c_rules::fault::{Fault, rule};
 use c_rules::found::{Found, Invocation, Run};
 use c_rules::rules::{
     address, arithmetic, arrow, begin, call, cast, choice, closed, comparison, constant,
-    dereference, dot, index, literal, logical, minus, negation, null, place, plus, shift, size_of,
-    unary, variable,
+    dereference, dot, index, literal, logical, minus, misplaced_call, negation, null, place, plus,
+    shift, size_of, unary, variable,
 };
 use c_rules::scope::{Entity, Scope};
 use c_rules::signature::{Signature, function};
 use c_rules::types::{note_specifier, type_of};
-use c_tree::tree::{Access, Constant, Expr, Link, MemberName, Name, TypeName};
+use c_tree::tree::{Access, Constant, Expr, Link, MemberName, Name, Primary, Suffix, TypeName};
 use c_tree::{Kind, Operator};
 use indexmap::IndexMap;
 use sqlite_items::{Boxed, Items};
@@ -42,23 +42,19 @@ pub fn expression(
     ensures faults { OnOk result (faults.new.items ≡ faults.old.items ++ (judged (called functions.now.entries) structs.now (scope_of scope.now) e.now).faults) }
 {
     match e {
-        Expr::Number(n) => Ok(Some(literal(alloc, n.at, n.value, width(n.long))?)),
-        Expr::Character { at, value } => {
-            Ok(Some(constant(alloc, *at, value.cast_signed(), IntegerType::Int)?))
-        }
-        Expr::Constant { at, constant } => Ok(Some(constant_of(alloc, *at, *constant)?)),
-        Expr::Name(n) => name(alloc, faults, scope, n),
-        Expr::Call { name, arguments } => {
-            misplaced(alloc, faults, functions, structs, scope, name, arguments)
-        }
-        Expr::Malloc { at, size } => {
-            no_part(alloc, faults, functions, structs, scope, *at, size.get())
+        Expr::Postfix { primary, suffixes } => {
+            let a = primary_of(alloc, faults, functions, structs, scope, primary)?;
+            suffixed(
+                alloc,
+                faults,
+                functions,
+                structs,
+                scope,
+                a,
+                suffixes.as_slice(),
+            )
         }
         Expr::SizeOf { at, name } => sized(alloc, faults, structs, *at, name),
-        Expr::Group { at, inner } => {
-            let a = expression(alloc, faults, functions, structs, scope, inner.get())?;
-            Ok(group(*at, a))
-        }
         Expr::Cast { at, name, operand } => {
             whole_cast(
                 alloc,
@@ -79,26 +75,6 @@ pub fn expression(
             let a = expression(alloc, faults, functions, structs, scope, operand.get())?;
             prefix(alloc, faults, structs, *at, *operator, a)
         }
-        Expr::Index { base, at: _, index } => {
-            whole_index(
-                alloc,
-                faults,
-                functions,
-                structs,
-                scope,
-                base.get(),
-                index.get(),
-            )
-        }
-        Expr::Member {
-            base,
-            at: _,
-            access,
-            name,
-        } => {
-            let a = expression(alloc, faults, functions, structs, scope, base.get())?;
-            member_of(alloc, faults, structs, a, *access, name)
-        }
         Expr::Chain { first, rest } => {
             whole_chain(alloc, faults, functions, structs, scope, first.get(), rest)
         }
@@ -112,6 +88,91 @@ pub fn expression(
             let b = expression(alloc, faults, functions, structs, scope, otherwise.get())?;
             choice_of(alloc, faults, c, a, b)
         }
+    }
+}
+
+// A primary expression.
+#[cycle(walk)]
+fn primary_of(
+    alloc: Global,
+    faults: &mut Vec<Fault>,
+    functions: &IndexMap<Vec<u8>, Signature>,
+    structs: &[Struct],
+    scope: &Scope,
+    p: &Primary<Expr>,
+) -> Result<Option<Found>, AllocError>
+    ensures found { IfOk result (λ found. found ≡ (walk.judged_primary (called functions.now.entries) structs.now (scope_of scope.now) p.now).found) }
+    ensures faults { OnOk result (faults.new.items ≡ faults.old.items ++ (walk.judged_primary (called functions.now.entries) structs.now (scope_of scope.now) p.now).faults) }
+{
+    match p {
+        Primary::Number(n) => Ok(Some(literal(alloc, n.at, n.value, width(n.long))?)),
+        Primary::Character { at, value } => {
+            Ok(Some(constant(alloc, *at, value.cast_signed(), IntegerType::Int)?))
+        }
+        Primary::Constant { at, constant } => Ok(Some(constant_of(alloc, *at, *constant)?)),
+        Primary::Name(n) => name(alloc, faults, scope, n),
+        Primary::Call { name, arguments } => {
+            misplaced(alloc, faults, functions, structs, scope, name, arguments)
+        }
+        Primary::Malloc { at, size } => {
+            no_part(alloc, faults, functions, structs, scope, *at, size.get())
+        }
+        Primary::Group { at, inner } => {
+            let a = expression(alloc, faults, functions, structs, scope, inner.get())?;
+            Ok(group(*at, a))
+        }
+    }
+}
+
+// What is selected from an operand, step by step.
+#[cycle(walk)]
+fn suffixed(
+    alloc: Global,
+    faults: &mut Vec<Fault>,
+    functions: &IndexMap<Vec<u8>, Signature>,
+    structs: &[Struct],
+    scope: &Scope,
+    a: Option<Found>,
+    suffixes: &[Suffix<Expr>],
+) -> Result<Option<Found>, AllocError>
+    ensures found { IfOk result (λ found. found ≡ (walk.judged_suffixes (called functions.now.entries) structs.now (scope_of scope.now) a suffixes.now).found) }
+    ensures faults { OnOk result (faults.new.items ≡ faults.old.items ++ (walk.judged_suffixes (called functions.now.entries) structs.now (scope_of scope.now) a suffixes.now).faults) }
+{
+    let mut found = a;
+    for x in suffixes {
+        found = suffix_of(alloc, faults, functions, structs, scope, found, x)?;
+    }
+    Ok(found)
+}
+
+// What is selected from an operand.
+#[cycle(walk)]
+#[tactic(auto, using(std::proofs::Common::append_assoc))]
+fn suffix_of(
+    alloc: Global,
+    faults: &mut Vec<Fault>,
+    functions: &IndexMap<Vec<u8>, Signature>,
+    structs: &[Struct],
+    scope: &Scope,
+    a: Option<Found>,
+    x: &Suffix<Expr>,
+) -> Result<Option<Found>, AllocError>
+    ensures found { IfOk result (λ found. found ≡ (walk.judged_suffix (called functions.now.entries) structs.now (scope_of scope.now) a x.now).found) }
+    ensures faults { OnOk result (faults.new.items ≡ faults.old.items ++ (walk.judged_suffix (called functions.now.entries) structs.now (scope_of scope.now) a x.now).faults) }
+{
+    match x {
+        Suffix::Index { at: _, index: i } => {
+            let i = expression(alloc, faults, functions, structs, scope, i)?;
+            match both(a, i) {
+                None => Ok(None),
+                Some((a, i)) => index(alloc, faults, structs, a, i),
+            }
+        }
+        Suffix::Member {
+            at: _,
+            access,
+            name,
+        } => member_of(alloc, faults, structs, a, *access, name),
     }
 }
 
@@ -160,29 +221,6 @@ fn whole_cast(
     match both(kind, a) {
         None => Ok(None),
         Some((kind, a)) => cast(alloc, faults, at, kind, a),
-    }
-}
-
-// `a[i]`.
-#[cycle(walk)]
-#[tactic(auto, using(std::proofs::Common::append_assoc))]
-fn whole_index(
-    alloc: Global,
-    faults: &mut Vec<Fault>,
-    functions: &IndexMap<Vec<u8>, Signature>,
-    structs: &[Struct],
-    scope: &Scope,
-    base: &Expr,
-    at: &Expr,
-) -> Result<Option<Found>, AllocError>
-    ensures found { IfOk result (λ found. found ≡ (walk.whole_index structs.now (judged (called functions.now.entries) structs.now (scope_of scope.now) base.now) (judged (called functions.now.entries) structs.now (scope_of scope.now) at.now)).found) }
-    ensures faults { OnOk result (faults.new.items ≡ faults.old.items ++ (walk.whole_index structs.now (judged (called functions.now.entries) structs.now (scope_of scope.now) base.now) (judged (called functions.now.entries) structs.now (scope_of scope.now) at.now)).faults) }
-{
-    let a = expression(alloc, faults, functions, structs, scope, base)?;
-    let i = expression(alloc, faults, functions, structs, scope, at)?;
-    match both(a, i) {
-        None => Ok(None),
-        Some((a, i)) => index(alloc, faults, structs, a, i),
     }
 }
 
@@ -267,20 +305,25 @@ fn misplaced(
     ensures found { IfOk result (λ found. found ≡ (walk.misplaced (called functions.now.entries) structs.now (scope_of scope.now) (walk.call_of (called functions.now.entries) structs.now (scope_of scope.now) name.now.at name.now arguments.now)).found) }
     ensures faults { OnOk result (faults.new.items ≡ faults.old.items ++ (walk.misplaced (called functions.now.entries) structs.now (scope_of scope.now) (walk.call_of (called functions.now.entries) structs.now (scope_of scope.now) name.now.at name.now arguments.now)).faults) }
 {
-    let found = invoked(
-        alloc, faults, functions, structs, scope, name.at, name, arguments,
+    let f = callee(faults, functions, scope, name)?;
+    let values = expressions(
+        alloc,
+        faults,
+        functions,
+        structs,
+        scope,
+        arguments.as_slice(),
     )?;
-    match found {
+    match f {
         None => Ok(None),
-        Some(_) => {
-            rule(faults, true, Kind::CallPlace, name.at)?;
-            Ok(None)
-        }
+        Some(f) => match values {
+            None => Ok(None),
+            Some(values) => misplaced_call(faults, is_main(name), name.at, f, values.as_slice()),
+        },
     }
 }
 
 /// What a call is found to be.
-#[cycle(walk)]
 #[tactic(auto, using(std::proofs::Common::append_assoc))]
 pub fn invoked(
     alloc: Global,
@@ -308,15 +351,18 @@ pub fn invoked(
         None => Ok(None),
         Some(f) => match values {
             None => Ok(None),
-            Some(values) => {
-                let main = name.bytes.as_slice() == b"main".as_slice();
-                call(alloc, faults, main, at, name.at, f, values)
-            }
+            Some(values) => call(alloc, faults, is_main(name), at, name.at, f, values),
         },
     }
 }
 
 // ---- the nodes
+
+fn is_main(name: &Name) -> bool
+    ensures { result ≡ walk.is_main name.now }
+{
+    name.bytes.as_slice() == b"main".as_slice()
+}
 
 /// Int, or long.
 fn width(long: bool) -> IntegerType

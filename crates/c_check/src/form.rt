@@ -110,16 +110,6 @@ fn listed(alloc: Global, x: Option<Boxed<Action>>) -> Result<Items<Action>, Allo
     }
 }
 
-// What is in the box, where there is one.
-fn unboxed<T>(x: Option<Boxed<T>>) -> Option<T>
-    ensures { result ≡ x }
-{
-    match x {
-        None => None,
-        Some(x) => Some(x.into_inner()),
-    }
-}
-
 /// A `for`.
 pub fn for_of(
     alloc: Global,
@@ -137,7 +127,7 @@ pub fn for_of(
             let step = listed(alloc, step)?;
             Ok(Some(Typed::For {
                 start,
-                test: unboxed(test),
+                test: test.map(Boxed::into_inner),
                 step,
                 body,
             }))

@@ -62,6 +62,20 @@ fn parts(
     into_scope(alloc, faults, structs, is_main(h), defined, parameters)
 }
 
+/// Whether it breaks no rule by itself.
+pub fn is_sound(
+    alloc: Global,
+    structs: &[Struct],
+    defined: bool,
+    h: &Heading,
+) -> Result<bool, AllocError>
+    ensures { IfOk result (λ sound. sound ≡ headers.is_sound structs.now defined h.now) }
+{
+    let mut faults = Vec::new(alloc);
+    parts(alloc, &mut faults, structs, defined, h)?;
+    Ok(faults.len() == 0 && !is_bad_result(result_of(structs, h)))
+}
+
 fn is_word(specifier: &TypeSpecifier, word: PlainType) -> bool
     ensures { result ≡ headers.is_word specifier.now word }
 {

@@ -26,7 +26,7 @@ use sqlite_items::Items;
 use std::alloc::{AllocError, Global};
 
 /// What the items of a program define: its structs, and its functions, where they are sound.
-#[derive(Debug, Drop)]
+#[derive(Drop)]
 pub struct Defined {
     pub structs: Items<Struct>,
     pub functions: Option<Items<Function>>,

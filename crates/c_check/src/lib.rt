@@ -16,6 +16,7 @@ mod table;
 
 ghost use Rattle.std.specs.Prelude.{◌≡◌, ◌++◌, IfOk, OnOk, IfSome, option_map};
 ghost use Rattle.std.specs.Option.{option_copied};
+ghost use Rattle.c_kernel.specs.Regular.{IsRegular};
 ghost use Rattle.c_rules.specs.Judged as nodes;
 ghost use Rattle.c_rules.specs.Table as tables;
 ghost use Rattle.c_rules.specs.Rules.{main_name};
@@ -36,19 +37,16 @@ use item::{Defined, items};
 use std::alloc::{AllocError, Global};
 use table::table;
 
-/// The typed program of the tree of a text of so many bytes, or its first broken rule. `any_source` says whether the text has the word `MPI_ANY_SOURCE`.
-pub fn check(
-    alloc: Global,
-    tree: &Tree,
-    length: u32,
-    any_source: bool,
-) -> Result<Program, CheckFault>
+/// The typed program of a tree, or its first broken rule.
+pub fn check(alloc: Global, tree: &Tree) -> Result<Program, CheckFault>
     // The answer is right, and no other would be.
-    ensures right { IfSome (said result) (Judges tree.now length any_source) }
-    ensures exact { (v : Verdict) → Judges tree.now length any_source v → IfSome (said result) (λ w. w ≡ v) }
+    ensures right { IfSome (said result) (Judges tree.now) }
+    ensures exact { (v : Verdict) → Judges tree.now v → IfSome (said result) (λ w. w ≡ v) }
+    // Its declarations and loops do little at once.
+    ensures regular { IfOk result IsRegular }
 {
     let mut faults = Vec::new(alloc);
-    let found = judged(alloc, &mut faults, tree, length, any_source)?;
+    let found = judged(alloc, &mut faults, tree)?;
     match first(&faults) {
         Some(fault) => Err(CheckFault::Broken {
             kind: fault.kind,
@@ -66,16 +64,14 @@ fn judged(
     alloc: Global,
     faults: &mut Vec<Fault>,
     tree: &Tree,
-    length: u32,
-    any_source: bool,
 ) -> Result<Option<Program>, AllocError>
-    ensures found { IfOk result (λ found. found ≡ option_map (program_of tree.now any_source) (judged_tree tree.now length).found) }
-    ensures faults { OnOk result (faults.new.items ≡ faults.old.items ++ (judged_tree tree.now length).faults) }
+    ensures found { IfOk result (λ found. found ≡ option_map (program_of tree.now) (judged_tree tree.now).found) }
+    ensures faults { OnOk result (faults.new.items ≡ faults.old.items ++ (judged_tree tree.now).faults) }
 {
     let functions = table(alloc, tree.items.as_slice())?;
     let defined = items(alloc, faults, &functions, tree.items.as_slice())?;
-    let main = main_of(faults, &functions, length)?;
-    Ok(whole(defined, main, any_source))
+    let main = main_of(faults, &functions, tree.length)?;
+    Ok(whole(defined, main, tree.any_source))
 }
 
 // The number of the function that a program starts in.

@@ -25,7 +25,7 @@ use c_rules::signature::Signature;
 use c_rules::types::{
     is_array, is_pointer, is_struct, is_target, is_void, same_type, scalar_of, target,
 };
-use c_tree::tree::{Expr, Name, SimpleStatement, Step, Text, TypeName};
+use c_tree::tree::{Expr, Name, Primary, SimpleStatement, Step, Text, TypeName};
 use c_tree::{Kind, Operator};
 use indexmap::IndexMap;
 use sqlite_items::{Boxed, Items};
@@ -44,12 +44,15 @@ fn is_assignable(form: &Form) -> bool
 }
 
 // The place that it is.
-fn place_in(alloc: Global, form: &Form) -> Result<Place<Term>, AllocError>
+fn place_in(alloc: Global, form: &Form) -> Result<Boxed<Place<Term>>, AllocError>
     ensures { IfOk result (λ place. place ≡ walk.place_in form.now) }
 {
     match form {
-        Form::Zero(_) | Form::Value { .. } => Ok(variable(alloc, 0)),
-        Form::Place { kind: _, place } => place.get().copy(alloc),
+        Form::Zero(_) | Form::Value { .. } => Boxed::new(alloc, variable(alloc, 0)),
+        Form::Place { kind: _, place } => {
+            let place = place.get().copy(alloc)?;
+            Boxed::new(alloc, place)
+        }
     }
 }
 
@@ -58,10 +61,7 @@ fn note_cast(faults: &mut Vec<Fault>, kind: CType, cast: Option<Cast>) -> Result
 {
     match cast {
         None => Ok(()),
-        Some(c) => {
-            let other = is_target(kind) && !same_type(c.kind, kind);
-            rule(faults, other, Kind::TypeMismatch, c.at)
-        }
+        Some(c) => { rule(faults, !same_type(c.kind, kind), Kind::TypeMismatch, c.at) }
     }
 }
 
@@ -92,17 +92,20 @@ fn note_right(faults: &mut Vec<Fault>, kind: CType, r: &Right) -> Result<(), All
 fn stored(
     alloc: Global,
     structs: &[Struct],
-    place: Place<Term>,
+    place: Boxed<Place<Term>>,
     kind: CType,
     r: Right,
 ) -> Result<Action, AllocError>
     ensures { IfOk result (λ action. action ≡ walk.stored structs.now place kind r) }
 {
     match r {
-        Right::Value(v) => Ok(Action::Set {
-            place,
-            value: value_as(alloc, kind, v)?.into_inner(),
-        }),
+        Right::Value(v) => {
+            let value = value_as(alloc, kind, v)?;
+            Ok(Action::Set {
+                place: place.into_inner(),
+                value: value.into_inner(),
+            })
+        }
         Right::Result(c) => {
             let Invocation {
                 at: _,
@@ -110,18 +113,24 @@ fn stored(
                 function,
                 arguments,
             } = c;
-            let kind = scalar_of(kind);
+            let target = Target {
+                place: place.into_inner(),
+                kind: scalar_of(kind),
+            };
             Ok(Action::Call {
-                into: Some(Target { place, kind }),
+                into: Some(target),
                 function,
                 arguments,
             })
         }
-        Right::Memory(m) => Ok(Action::Malloc {
-            place,
-            bytes: value(alloc, m.bytes)?.into_inner(),
-            each: extent_of(structs, target(kind)),
-        }),
+        Right::Memory(m) => {
+            let bytes = value(alloc, m.bytes)?;
+            Ok(Action::Malloc {
+                place: place.into_inner(),
+                bytes: bytes.into_inner(),
+                each: extent_of(structs, target(kind)),
+            })
+        }
     }
 }
 
@@ -140,18 +149,40 @@ pub fn assign(
     faults: &mut Vec<Fault>,
     structs: &[Struct],
     a: Found,
-    r: Right,
+    r: Boxed<Right>,
 ) -> Result<Option<Action>, AllocError>
     ensures found { IfOk result (λ found. found ≡ (walk.assign structs.now a r).found) }
     ensures faults { OnOk result (faults.new.items ≡ faults.old.items ++ (walk.assign structs.now a r).faults) }
 {
     let before = faults.len();
-    note_assign(faults, &a, &r)?;
+    note_assign(faults, &a, r.get())?;
     if faults.len() > before {
         return Ok(None);
     }
     let place = place_in(alloc, &a.form)?;
-    Ok(Some(stored(alloc, structs, place, kind_of(&a), r)?))
+    Ok(Some(stored(alloc, structs, place, kind_of(&a), r.into_inner())?))
+}
+
+// The value of a chain goes to a place of the type.
+fn updated(
+    alloc: Global,
+    faults: &mut Vec<Fault>,
+    structs: &[Struct],
+    at: u32,
+    place: Boxed<Place<Term>>,
+    kind: CType,
+    run: Run,
+) -> Result<Option<Action>, AllocError>
+    ensures found { IfOk result (λ found. found ≡ (walk.updated structs.now at place kind run).found) }
+    ensures faults { OnOk result (faults.new.items ≡ faults.old.items ++ (walk.updated structs.now at place kind run).faults) }
+{
+    let clash = clash(kind, false, run.kind);
+    rule(faults, clash, Kind::TypeMismatch, at)?;
+    if clash {
+        return Ok(None);
+    }
+    let v = Right::Value(closed(alloc, run)?);
+    Ok(Some(stored(alloc, structs, place, kind, v)?))
 }
 
 /// `a o= v`.
@@ -178,13 +209,7 @@ pub fn compound(
             if !assignable {
                 return Ok(None);
             }
-            let clash = clash(kind, false, run.kind);
-            rule(faults, clash, Kind::TypeMismatch, at)?;
-            if clash {
-                return Ok(None);
-            }
-            let v = Right::Value(closed(alloc, run)?);
-            Ok(Some(stored(alloc, structs, place, kind, v)?))
+            updated(alloc, faults, structs, at, place, kind, run)
         }
     }
 }
@@ -355,10 +380,16 @@ fn call_in(e: &Expr) -> Option<(u32, &Name, &Items<Expr>)>
     ensures { (f : names.Bytes → Option Signature) (structs : List Struct) (s : names.Scope) → (expressions.seen f structs s e.now).called ≡ option_map (λ c. expressions.call_of f structs s c.0 c.1.now c.2.now) result }
 {
     match e {
-        Expr::Call { name, arguments } => Some((name.at, name, arguments)),
-        Expr::Group { at, inner } => match call_in(inner.get()) {
-            None => None,
-            Some((_, name, arguments)) => Some((*at, name, arguments)),
+        Expr::Postfix { primary, suffixes } => match suffixes.as_slice() {
+            [] => match primary {
+                Primary::Call { name, arguments } => Some((name.at, name, arguments)),
+                Primary::Group { at, inner } => match call_in(inner.get()) {
+                    None => None,
+                    Some((_, name, arguments)) => Some((*at, name, arguments)),
+                },
+                _ => None,
+            },
+            [_, ..] => None,
         },
         _ => None,
     }
@@ -378,15 +409,21 @@ fn malloc_in(e: &Expr) -> Option<Malloc<'_>>
     ensures { (f : names.Bytes → Option Signature) (structs : List Struct) (s : names.Scope) → (expressions.seen f structs s e.now).allocated ≡ option_map (λ m. expressions.malloc_of f structs s m.at m.malloc (option_map (λ c. (c.0, c.1.now)) m.cast) m.bytes.now) result }
 {
     match e {
-        Expr::Malloc { at, size } => Some(Malloc {
-            at: *at,
-            malloc: *at,
-            cast: None,
-            bytes: size.get(),
-        }),
-        Expr::Group { at, inner } => match malloc_in(inner.get()) {
-            None => None,
-            Some(m) => Some(Malloc { at: *at, ..m }),
+        Expr::Postfix { primary, suffixes } => match suffixes.as_slice() {
+            [] => match primary {
+                Primary::Malloc { at, size } => Some(Malloc {
+                    at: *at,
+                    malloc: *at,
+                    cast: None,
+                    bytes: size.get(),
+                }),
+                Primary::Group { at, inner } => match malloc_in(inner.get()) {
+                    None => None,
+                    Some(m) => Some(Malloc { at: *at, ..m }),
+                },
+                _ => None,
+            },
+            [_, ..] => None,
         },
         Expr::Cast { at, name, operand } => match malloc_in(operand.get()) {
             Some(
@@ -459,14 +496,14 @@ pub fn right(
     structs: &[Struct],
     scope: &Scope,
     e: &Expr,
-) -> Result<Option<Right>, AllocError>
+) -> Result<Option<Boxed<Right>>, AllocError>
     ensures found { IfOk result (λ found. found ≡ (expressions.right (called functions.now.entries) structs.now (scope_of scope.now) e.now).found) }
     ensures faults { OnOk result (faults.new.items ≡ faults.old.items ++ (expressions.right (called functions.now.entries) structs.now (scope_of scope.now) e.now).faults) }
 {
     match malloc_in(e) {
         Some(m) => match allocation(alloc, faults, functions, structs, scope, m)? {
             None => Ok(None),
-            Some(m) => Ok(Some(Right::Memory(m))),
+            Some(m) => Ok(Some(Boxed::new(alloc, Right::Memory(m))?)),
         },
         None => match call_in(e) {
             Some((at, name, arguments)) => {
@@ -474,12 +511,12 @@ pub fn right(
                     alloc, faults, functions, structs, scope, at, name, arguments,
                 )? {
                     None => Ok(None),
-                    Some(c) => Ok(Some(Right::Result(c))),
+                    Some(c) => Ok(Some(Boxed::new(alloc, Right::Result(c))?)),
                 }
             }
             None => match expression(alloc, faults, functions, structs, scope, e)? {
                 None => Ok(None),
-                Some(v) => Ok(Some(Right::Value(v))),
+                Some(v) => Ok(Some(Boxed::new(alloc, Right::Value(v))?)),
             },
         },
     }

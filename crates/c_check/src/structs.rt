@@ -17,7 +17,7 @@ use sqlite_items::Items;
 use std::alloc::{AllocError, Global};
 
 // The members so far, the room that they take, and whether one has found none.
-#[derive(Debug, Drop)]
+#[derive(Drop)]
 struct Laid {
     members: Items<Member>,
     extent: Extent,

@@ -7,7 +7,7 @@ ghost use Rattle.c_rules.specs.Table.{called};
 ghost use Rattle.c_rules.specs.Types as types;
 ghost use Rattle.c_check.specs.Functions as functions;
 
-use crate::heading::{result_of, types_of};
+use crate::heading::{is_sound, result_of, types_of};
 use crate::structs::add_struct;
 use c_kernel::Struct;
 use c_rules::signature::Signature;
@@ -74,6 +74,7 @@ fn add_heading(
     let signature = Signature {
         result: result_of(structs, heading),
         parameters: types_of(alloc, structs, heading)?,
+        sound: is_sound(alloc, structs, defined, heading)?,
         number: defined.then_some(number),
     };
     join(table, name, signature)

@@ -1,2 +1,3 @@
 pub mod Extent
 pub mod Elements
+pub mod Regular

@@ -1,15 +1,14 @@
 //! A program in which names are resolved and conversions stand.
 
 mod copy;
-#[cfg(test)]
-mod tests;
 
 use crate::types::{CType, Extent, IntegerType, ObjectType, Struct};
+pub use copy::copies;
 use mpi_words::Datatype;
 use sqlite_items::{Boxed, Items};
 
 /// A program. It starts in the function with the number `main`.
-#[derive(Debug, Drop)]
+#[derive(Drop)]
 pub struct Program {
     /// `MPI_Status` and those of the text, in its order. A type names a struct by its place here.
     pub structs: Items<Struct>,
@@ -21,7 +20,7 @@ pub struct Program {
 }
 
 /// A function (C99 6.9.1).
-#[derive(Debug, Drop)]
+#[derive(Drop)]
 pub struct Function {
     pub name: Items<u8>,
     pub result: CType,
@@ -33,7 +32,7 @@ pub struct Function {
 }
 
 /// A statement (C99 6.8). A branch or a loop's body is a list of one statement.
-#[derive(Debug, Drop)]
+#[derive(Drop)]
 pub enum Stmt {
     /// An expression statement, a declaration or an empty statement: what it does, in order.
     Actions(Items<Action>),
@@ -74,7 +73,7 @@ pub enum Stmt {
 }
 
 /// A call of MPI, with those of its arguments that have values, in the text's order. Counts, ranks and tags are ints.
-#[derive(Debug, Drop)]
+#[derive(Drop)]
 pub struct MpiCall {
     pub function: MpiFunction,
     pub arguments: Items<Expr>,
@@ -100,14 +99,14 @@ pub enum MpiFunction {
 }
 
 /// A branch that is taken where its test isn't 0 and no earlier one's is.
-#[derive(Debug, Drop)]
+#[derive(Drop)]
 pub struct Arm<S> {
     pub test: Expr,
     pub body: Items<S>,
 }
 
 /// What is done at once: by a statement, by a declaration for one of its variables, or in the head of a `for`.
-#[derive(Debug, Drop)]
+#[derive(Drop)]
 pub enum Action {
     /// The variable with this number gets zeros.
     Zero(usize),
@@ -129,7 +128,7 @@ pub enum Action {
 }
 
 /// Where the result of a call goes, converted to the kind.
-#[derive(Debug, Drop)]
+#[derive(Drop)]
 pub struct Target {
     pub place: Place<Expr>,
     pub kind: Scalar,
@@ -155,14 +154,14 @@ pub enum Scalar {
 }
 
 /// A place: that of a variable or of what a pointer points to, or what is selected there, step by step.
-#[derive(Debug, Drop)]
+#[derive(Drop)]
 pub struct Place<E> {
     pub root: Root<E>,
     pub steps: Items<Selection<E>>,
 }
 
 /// Where a place begins.
-#[derive(Debug, Drop)]
+#[derive(Drop)]
 pub enum Root<E> {
     /// The variable with this number.
     Variable(usize),
@@ -171,7 +170,7 @@ pub enum Root<E> {
 }
 
 /// What is selected at a place.
-#[derive(Debug, Drop)]
+#[derive(Drop)]
 pub enum Selection<E> {
     /// `[index]`, of elements with so many cells each.
     Element {
@@ -184,10 +183,14 @@ pub enum Selection<E> {
         member: usize,
         place: u32,
     },
+    /// What the pointer that stands there points to (C99 6.5.3.2).
+    Follow,
+    /// The same place, with the test that `&` makes: where an array stands for a pointer (C99 6.3.2.1) that is followed.
+    Checked,
 }
 
 /// An expression (C99 6.5).
-#[derive(Debug, Drop)]
+#[derive(Drop)]
 pub enum Expr {
     Number {
         value: i64,
@@ -229,7 +232,7 @@ pub enum Expr {
 }
 
 /// An operator with its right operand.
-#[derive(Debug, Drop)]
+#[derive(Drop)]
 pub struct Link<E> {
     /// What the left operand is converted to first, where that changes its type.
     pub conversion: Option<IntegerType>,

@@ -1,6 +1,4 @@
 mod copy;
-#[cfg(test)]
-mod tests;
 
 ghost use Rattle.std.specs.Prelude.{◌≡◌};
 ghost use Rattle.c_kernel.specs.Extent as extents;
@@ -35,7 +33,7 @@ pub enum IntegerType {
 }
 
 /// The type of a variable or member, and how many cells it has.
-#[derive(Debug, Drop)]
+#[derive(Drop)]
 pub struct ObjectType {
     pub element: CType,
     /// Those of an array, the outermost first.
@@ -51,7 +49,7 @@ pub struct Extent {
 }
 
 /// A struct (C99 6.7.2.1). It has no padding.
-#[derive(Debug, Drop)]
+#[derive(Drop)]
 pub struct Struct {
     pub name: Items<u8>,
     pub members: Items<Member>,
@@ -59,7 +57,7 @@ pub struct Struct {
 }
 
 /// A member, which begins at this cell of its struct.
-#[derive(Debug, Drop)]
+#[derive(Drop)]
 pub struct Member {
     pub name: Items<u8>,
     pub kind: ObjectType,

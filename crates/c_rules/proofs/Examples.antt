@@ -29,7 +29,7 @@ use Rattle.c_rules.specs.Judged.{by, refused}
 use Rattle.c_rules.specs.Scope.{start, hide, visible}
 use Rattle.c_rules.specs.Types.{room, object_type, element, value_type, number_of, known_number, numbered, integer, null_type, pointer_to, is_incomplete, type_of, status_type, first_structs}
 use Rattle.c_rules.specs.Rules as rules
-use Rattle.c_rules.specs.Rules.{clash, choice_type, literal, character, constant_word, plain, place, variable, value_at, index, dot, arrow, address, plus, minus, begin}
+use Rattle.c_rules.specs.Rules.{clash, choice_type, literal, character, constant_word, plain, place, variable, value_at, index, dot, arrow, dereference, address, plus, minus, begin}
 use Rattle.c_rules.specs.Roles.{role_rules, role_value, roles_rules}
 
 -- ---- struct Pair { int first; long rest[2]; };
@@ -243,11 +243,11 @@ unfolding dot
 dot_array = refl
 
 -- p->rest, row->rest
-arrow_rest : arrow structs p_found (member_named 13 (codes "rest")) ≡ by [] (place 10 rest.kind (rest_of (rules.target_place p_value)))
+arrow_rest : arrow structs p_found (member_named 13 (codes "rest")) ≡ by [] (place 10 rest.kind (rest_of (record { root = root.Variable 1; steps = selection.Follow ∷ [] })))
 unfolding arrow
 arrow_rest = refl
 
-arrow_array : arrow structs row_found (member_named 15 (codes "rest")) ≡ by [] (place 10 rest.kind (rest_of (rules.target_place row_value)))
+arrow_array : arrow structs row_found (member_named 15 (codes "rest")) ≡ by [] (place 10 rest.kind (rest_of (record { root = root.Variable 2; steps = selection.Element (typed.Number (pos 0) Int) 3 ∷ selection.Checked ∷ [] })))
 unfolding arrow
 arrow_array = refl
 
@@ -265,9 +265,22 @@ index_array : index structs row_found (rules.constant 14 (pos 1) Int) ≡ by [] 
 unfolding index
 index_array = refl
 
-index_pointer : index structs p_found (rules.constant 12 (pos 1) Int) ≡ by [] (place 10 (one pair 3) (record { root = root.Target p_value; steps = selection.Element (typed.Number (pos 1) Int) 3 ∷ [] }))
+index_pointer : index structs p_found (rules.constant 12 (pos 1) Int) ≡ by [] (place 10 (one pair 3) (record { root = root.Variable 1; steps = selection.Follow ∷ selection.Element (typed.Number (pos 1) Int) 3 ∷ [] }))
 unfolding index
 index_pointer = refl
+
+-- *p, *row, *(p + 1)
+follow : dereference structs 9 p_found ≡ by [] (place 9 (one pair 3) (record { root = root.Variable 1; steps = selection.Follow ∷ [] }))
+unfolding dereference
+follow = refl
+
+follow_array : dereference structs 9 row_found ≡ by [] (place 9 (one pair 3) (record { root = root.Variable 2; steps = selection.Element (typed.Number (pos 0) Int) 3 ∷ selection.Checked ∷ [] }))
+unfolding dereference
+follow_array = refl
+
+follow_value : dereference structs 9 (plain 10 (pointer_to pair) row_value) ≡ by [] (place 9 (one pair 3) (record { root = root.Target row_value; steps = [] }))
+unfolding dereference
+follow_value = refl
 
 -- &row, &pair
 address_array : address 9 row_found ≡ by (record { kind = NotPlace; at = 10 } ∷ []) (plain 9 (pointer_to pair) (typed.Address (variable 2)))

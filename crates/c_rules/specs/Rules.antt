@@ -9,7 +9,7 @@ use Rattle.c_tree.specs.declared.tree.Access.TheVariants as access
 use Rattle.c_tree.specs.declared.tree.MemberName.{MemberName}
 use Rattle.c_tree.specs.declared.token.Operator.{Operator}
 use Rattle.c_tree.specs.declared.token.Operator.TheVariants as operator
-use Rattle.c_tree.specs.declared.kind.Kind.TheVariants.{NotYet, UnknownName, BadMain, NotScalar, NotInteger, NotPointer, NotStruct, NotPlace, TypeMismatch, ArgumentCount, IncompleteType, Undefined}
+use Rattle.c_tree.specs.declared.kind.Kind.TheVariants.{NotYet, UnknownName, BadMain, NotScalar, NotInteger, NotPointer, NotStruct, NotPlace, TypeMismatch, ArgumentCount, CallPlace, IncompleteType, Undefined}
 use Rattle.c_kernel.specs.declared.types.CType.{CType}
 use Rattle.c_kernel.specs.declared.types.Base.{Base}
 use Rattle.c_kernel.specs.declared.types.Base.TheVariants as base
@@ -47,7 +47,7 @@ use Rattle.c_rules.specs.declared.found.Invocation.{Invocation}
 use Rattle.c_rules.specs.declared.scope.Entity.{Entity}
 use Rattle.c_rules.specs.declared.scope.Entity.TheVariants.{Variable, Parameter}
 use Rattle.c_rules.specs.declared.signature.Signature.{Signature}
-use Rattle.c_rules.specs.Judged.{Judged, breaks, by, refused, given, of_part}
+use Rattle.c_rules.specs.Judged.{Judged, breaks, by, refused, silent, given, after, of_part}
 use Rattle.c_rules.specs.Scope.{Bytes}
 use Rattle.c_rules.specs.Types.{is_pointer, is_integer, is_scalar, is_struct, is_null, is_target, is_incomplete, null_type, pointer_to, target, integer, integer_of, scalar_of, same_type, one_object, element_cells, is_array, element, value_type, member_bytes, member_at, numbered, promoted, common, change, converted}
 
@@ -186,9 +186,14 @@ group at a = by [] (record a { at = at })
 
 -- ---- what is selected (6.5.2.1, 6.5.2.3)
 
--- what a pointer points to
-abbrev pub target_place : Expr → Place Expr
-target_place p = record { root = root.Target p; steps = [] }
+-- what a pointer points to. One that stands at a place, or that the array there stands for, is followed from that place
+abbrev pub target_in : Form → Place Expr
+target_in (form.Zero kind) = record { root = root.Target (typed.Number (pos 0) kind); steps = [] }
+target_in (form.Value kind e) = record { root = root.Target e; steps = [] }
+target_in (form.Place kind p) = if is_array kind then step_to (element_place kind p zero_number) selection.Checked else step_to p selection.Follow
+
+abbrev pub target_place : Found → Place Expr
+target_place a = target_in a.form
 
 -- the place that the brackets or the arrow begin with, and what stands there: an array as it is, or what a pointer points to
 abbrev pub array_place : Found → Option (ObjectType × Place Expr)
@@ -208,7 +213,7 @@ base_rules a = if is_array_found a then [] else pointer_rules a.at (kind_of a)
 abbrev pub element_found : List Structure → Found → Expr → Found
 element_found structs a i = elim (array_place a) [
   | Some x ↦ place a.at (element x.0) (element_place x.0 x.1 i)
-  | None ↦ place a.at (one_object structs (target (kind_of a))) (step_to (target_place (value a)) (selection.Element i (element_cells structs (target (kind_of a)))))
+  | None ↦ place a.at (one_object structs (target (kind_of a))) (step_to (target_place a) (selection.Element i (element_cells structs (target (kind_of a)))))
 ]
 
 unfoldable pub index : List Structure → Found → Found → Judged Found
@@ -250,7 +255,7 @@ abbrev pub arrow_rules : Found → List Fault
 arrow_rules a = pointer_rules a.at (kind_of a) ++ breaks (is_target (kind_of a) && not (is_struct (target (kind_of a)))) NotStruct a.at
 
 unfoldable pub arrow : List Structure → Found → MemberName → Judged Found
-arrow structs a n = of_part (by (arrow_rules a) (target_place (value a))) (λ p. selected structs a.at (target (kind_of a)) p n)
+arrow structs a n = of_part (by (arrow_rules a) (target_place a)) (λ p. selected structs a.at (target (kind_of a)) p n)
 
 abbrev pub member : List Structure → Access → Found → MemberName → Judged Found
 member structs access.Dot a n = dot structs a n
@@ -267,7 +272,7 @@ unfoldable pub negation : ℕ → Found → Judged Found
 negation at a = by (scalar_rules a.at (kind_of a)) (plain at (integer Int) (typed.Not (value a)))
 
 unfoldable pub dereference : List Structure → ℕ → Found → Judged Found
-dereference structs at a = by (pointer_rules a.at (kind_of a)) (place at (one_object structs (target (kind_of a))) (target_place (value a)))
+dereference structs at a = by (pointer_rules a.at (kind_of a)) (place at (one_object structs (target (kind_of a))) (target_place a))
 
 -- & of a place that is no array
 abbrev pub addressed : ℕ → ℕ → Form → Judged Found
@@ -458,18 +463,25 @@ abbrev pub passed : List CType → List Found → List Expr
 passed (t ∷ ts) (v ∷ vs) = value_as t v ∷ passed ts vs
 passed _ _ = []
 
+-- nothing is said of values against a header that breaks a rule
+abbrev pub header_rules : ℕ → Signature → List Found → List Fault
+header_rules at f vs = if f.sound then breaks (not (length f.parameters == length vs)) ArgumentCount at ++ argument_rules f.parameters vs else []
+
 abbrev pub call_rules : Bool → ℕ → Signature → List Found → List Fault
 call_rules main at f vs =
     breaks main BadMain at
-    ++ breaks (not (length f.parameters == length vs)) ArgumentCount at
     ++ breaks (is_none f.number) Undefined at
-    ++ argument_rules f.parameters vs
+    ++ header_rules at f vs
 
--- a call whose first byte is `at`, of the function with the name at `called`
+-- a call whose first byte is `at`, of the function with the name at `called`; nor is anything said of the result by such a header
 unfoldable pub call : Bool → ℕ → ℕ → Signature → List Found → Judged Invocation
-call main at called f vs = by (call_rules main called f vs) (record {
+call main at called f vs = of_part (by (call_rules main called f vs) (record {
   at = at;
   kind = f.result;
   function = unwrap_or f.number 0;
   arguments = passed f.parameters vs;
-})
+})) (λ c. if f.sound then by [] c else silent)
+
+-- a call that is a part of an expression
+unfoldable pub misplaced : Bool → ℕ → Signature → List Found → Judged Found
+misplaced main at f vs = after (call_rules main at f vs) (refused CallPlace at)

@@ -141,14 +141,13 @@ integer_of t = base_integer t.base
 abbrev pub scalar_of : CType → Scalar
 scalar_of t = if is_pointer t then scalar.Pointer else scalar.Number (integer_of t)
 
--- void or a pointer to it, or by value a struct whose definition hasn't ended
-abbrev pub is_later : List Structure → Base → Bool
-is_later structs (Integer kind) = false
-is_later structs Void = false
-is_later structs (Struct n) = not (nat_lt n (length structs))
+-- the cells that an element takes
+abbrev pub element_cells : List Structure → CType → ℕ
+element_cells structs t = (extent structs t).cells
 
+-- void or a pointer to it, or what takes no room: by value a struct whose definition hasn't ended
 abbrev pub is_incomplete : List Structure → CType → Bool
-is_incomplete structs t = is_void_base t.base || (not (is_pointer t) && is_later structs t.base)
+is_incomplete structs t = is_void_base t.base || nat_eq (element_cells structs t) 0
 
 -- ---- equality
 
@@ -181,9 +180,6 @@ is_array_size n = nat_lt 0 n && nat_lt n 8193
 abbrev pub room : ℕ → List ℕ → Option ℕ
 room cells [] = if nat_lt 8192 cells then None else Some cells
 room cells (n ∷ ns) = if nat_lt 8192 cells then None else if is_array_size n then room (cells * n) ns else None
-
-abbrev pub element_cells : List Structure → CType → ℕ
-element_cells structs t = (extent structs t).cells
 
 abbrev pub one_object : List Structure → CType → ObjectType
 one_object structs t = record { element = t; sizes = []; cells = element_cells structs t }

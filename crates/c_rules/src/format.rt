@@ -12,7 +12,7 @@ use sqlite_items::Items;
 use std::alloc::{AllocError, Global};
 
 /// Where a byte of a format stands: outside a conversion, behind `%` or behind `%l`.
-#[derive(Clone, Copy, Debug)]
+#[derive(Clone, Copy)]
 pub enum Spot {
     Outside,
     Percent,
@@ -20,7 +20,7 @@ pub enum Spot {
 }
 
 /// What a byte of a format does.
-#[derive(Clone, Copy, Debug)]
+#[derive(Clone, Copy)]
 pub enum Reading {
     Gives(Piece),
     Moves(Spot),

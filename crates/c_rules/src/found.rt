@@ -5,14 +5,14 @@ use c_kernel::{CType, IntegerType, ObjectType};
 use sqlite_items::{Boxed, Items};
 
 /// An expression that breaks no rule, with its first byte.
-#[derive(Debug, Drop)]
+#[derive(Drop)]
 pub struct Found {
     pub at: u32,
     pub form: Form,
 }
 
 /// What an expression is.
-#[derive(Debug, Drop)]
+#[derive(Drop)]
 pub enum Form {
     /// The literal 0 of the type, which is a null pointer too (C99 6.3.2.3).
     Zero(IntegerType),
@@ -28,7 +28,7 @@ pub enum Form {
 }
 
 /// A chain of operators up to one of them. It is `zero` where it is the literal 0 alone.
-#[derive(Debug, Drop)]
+#[derive(Drop)]
 pub struct Run {
     pub at: u32,
     pub kind: CType,
@@ -38,7 +38,7 @@ pub struct Run {
 }
 
 /// What stands right of `=`, or as a statement.
-#[derive(Debug, Drop)]
+#[derive(Drop)]
 pub enum Right {
     Value(Found),
     Result(Invocation),
@@ -46,7 +46,7 @@ pub enum Right {
 }
 
 /// A call: its first byte, the type of its result, the function's number and the values that are passed.
-#[derive(Debug, Drop)]
+#[derive(Drop)]
 pub struct Invocation {
     pub at: u32,
     pub kind: CType,
@@ -55,7 +55,7 @@ pub struct Invocation {
 }
 
 /// A `malloc` at this place, perhaps with a cast before it.
-#[derive(Debug, Drop)]
+#[derive(Drop)]
 pub struct Allocation {
     pub at: u32,
     pub cast: Option<Cast>,
@@ -63,7 +63,7 @@ pub struct Allocation {
 }
 
 /// A cast at this place, to the type.
-#[derive(Clone, Copy, Debug)]
+#[derive(Clone, Copy)]
 pub struct Cast {
     pub at: u32,
     pub kind: CType,

@@ -145,6 +145,39 @@ fn passed(alloc: Global, kinds: &[CType], values: Items<Found>) -> Result<Items<
     Ok(terms)
 }
 
+// The values of a call against the header.
+#[tactic(auto, using(std::proofs::Common::append_assoc))]
+fn note_header(
+    faults: &mut Vec<Fault>,
+    at: u32,
+    f: &Signature,
+    values: &[Found],
+) -> Result<(), AllocError>
+    ensures { OnOk result (faults.new.items ≡ faults.old.items ++ rules.header_rules at f.now values.now) }
+{
+    if !f.sound {
+        return Ok(());
+    }
+    let other = f.parameters.len() != values.len();
+    rule(faults, other, Kind::ArgumentCount, at)?;
+    note_arguments(faults, f.parameters.as_slice(), values)
+}
+
+#[tactic(auto, using(std::proofs::Common::append_assoc))]
+fn note_call(
+    faults: &mut Vec<Fault>,
+    main: bool,
+    at: u32,
+    f: &Signature,
+    values: &[Found],
+) -> Result<(), AllocError>
+    ensures { OnOk result (faults.new.items ≡ faults.old.items ++ rules.call_rules main at f.now values.now) }
+{
+    rule(faults, main, Kind::BadMain, at)?;
+    rule(faults, f.number.is_none(), Kind::Undefined, at)?;
+    note_header(faults, at, f, values)
+}
+
 /// A call of the function with the name at `called`.
 #[tactic(auto, using(std::proofs::Common::append_assoc), unfolding(crate::specs::Rules::call))]
 pub fn call(
@@ -160,16 +193,11 @@ pub fn call(
     ensures faults { OnOk result (faults.new.items ≡ faults.old.items ++ (rules.call main at called f.now values).faults) }
 {
     let before = faults.len();
-    rule(faults, main, Kind::BadMain, called)?;
-    rule(
-        faults,
-        f.parameters.len() != values.len(),
-        Kind::ArgumentCount,
-        called,
-    )?;
-    rule(faults, f.number.is_none(), Kind::Undefined, called)?;
-    note_arguments(faults, f.parameters.as_slice(), values.as_slice())?;
+    note_call(faults, main, called, f, values.as_slice())?;
     if faults.len() > before {
+        return Ok(None);
+    }
+    if !f.sound {
         return Ok(None);
     }
     Ok(Some(Invocation {
@@ -178,4 +206,21 @@ pub fn call(
         function: f.number.unwrap_or(0),
         arguments: passed(alloc, f.parameters.as_slice(), values)?,
     }))
+}
+
+/// A call that is a part of an expression, of the function with the name at this place.
+#[tactic(auto, using(std::proofs::Common::append_assoc), unfolding(crate::specs::Rules::misplaced))]
+pub fn misplaced_call(
+    faults: &mut Vec<Fault>,
+    main: bool,
+    at: u32,
+    f: &Signature,
+    values: &[Found],
+) -> Result<Option<Found>, AllocError>
+    ensures found { IfOk result (λ found. found ≡ (rules.misplaced main at f.now values.now).found) }
+    ensures faults { OnOk result (faults.new.items ≡ faults.old.items ++ (rules.misplaced main at f.now values.now).faults) }
+{
+    note_call(faults, main, at, f, values)?;
+    rule(faults, true, Kind::CallPlace, at)?;
+    Ok(None)
 }

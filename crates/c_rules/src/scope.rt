@@ -14,7 +14,7 @@ use std::alloc::{AllocError, Global};
 use std::mem;
 
 /// What a name of a function's scopes stands for (C99 6.2.1).
-#[derive(Debug, Drop)]
+#[derive(Drop)]
 pub enum Entity {
     Variable(Variable),
     /// The parameter of `main` with this number, counted from 0.
@@ -22,14 +22,14 @@ pub enum Entity {
 }
 
 /// A variable: its number in its function, and its type.
-#[derive(Debug, Drop)]
+#[derive(Drop)]
 pub struct Variable {
     pub number: usize,
     pub kind: ObjectType,
 }
 
 /// The names of the blocks around, the outermost first, and of the block itself; and the types of all variables of the function so far.
-#[derive(Debug, Drop)]
+#[derive(Drop)]
 pub struct Scope {
     pub around: Vec<IndexMap<Vec<u8>, Entity>>,
     pub here: IndexMap<Vec<u8>, Entity>,

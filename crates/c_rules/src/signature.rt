@@ -8,11 +8,12 @@ use c_kernel::CType;
 use indexmap::IndexMap;
 use sqlite_items::Items;
 
-/// The types of a function's first header, and the number of its definition.
-#[derive(Debug, Drop)]
+/// The types of a function's first header, whether that header breaks no rule, and the number of its definition.
+#[derive(Drop)]
 pub struct Signature {
     pub result: CType,
     pub parameters: Items<CType>,
+    pub sound: bool,
     pub number: Option<usize>,
 }
 

@@ -239,20 +239,11 @@ pub fn scalar_of(kind: CType) -> Scalar
     }
 }
 
-fn is_later(structs: &[Struct], base: Base) -> bool
-    ensures { result ≡ types.is_later structs.now base }
-{
-    match base {
-        Base::Integer(_) | Base::Void => false,
-        Base::Struct(number) => number >= structs.len(),
-    }
-}
-
-/// Whether no object is of it: void, a pointer to void, or by value a struct whose definition hasn't ended.
+/// Whether no object is of it: void, a pointer to void, or what takes no room, by value a struct whose definition hasn't ended.
 pub fn is_incomplete(structs: &[Struct], kind: CType) -> bool
     ensures { result ≡ types.is_incomplete structs.now kind }
 {
-    is_void_base(kind.base) || (!is_pointer(kind) && is_later(structs, kind.base))
+    is_void_base(kind.base) || element_cells(structs, kind) == 0
 }
 
 // ---- equality

@@ -37,9 +37,9 @@ noted before first second a b p q = q ∙ ap (λ (fs : List Fault). fs ++ b) p �
 pub returns-clause-found : goal.returns-clause-found
 returns-clause-found c =
     let f = called c.in_ok-functions.functions.entries in
-    let any = c.args.any_source in
+    let any = c.args.tree.now.any_source in
     let items = c.as_slice-2.result.now in
-    let same = same_table f c.as_slice.result.now items c.args.tree.now.items c.args.length c.in_ok-functions.ensures c.as_slice.ensures c.as_slice-2.ensures in
+    let same = same_table f c.as_slice.result.now items c.args.tree.now.items c.args.tree.now.length c.in_ok-functions.ensures c.as_slice.ensures c.as_slice-2.ensures in
     c.whole.ensures
     ∙ ap (λ (ss : List Struct). option_map (program ss any) (both c.in_ok-defined.defined.functions c.in_ok-main.main)) (c.in_ok-defined.ensures.structs ∙ ap (all_structs first_structs) c.as_slice-2.ensures)
     ∙ ap (λ (o : Option (List Function)). option_map (program (all_structs first_structs c.args.tree.now.items) any) (both o c.in_ok-main.main)) c.in_ok-defined.ensures.functions
@@ -50,8 +50,8 @@ pub returns-clause-faults : goal.returns-clause-faults
 returns-clause-faults c =
     let f = called c.in_ok-functions.functions.entries in
     let items = c.as_slice-2.result.now in
-    let same = same_table f c.as_slice.result.now items c.args.tree.now.items c.args.length c.in_ok-functions.ensures c.as_slice.ensures c.as_slice-2.ensures in
+    let same = same_table f c.as_slice.result.now items c.args.tree.now.items c.args.tree.now.length c.in_ok-functions.ensures c.as_slice.ensures c.as_slice-2.ensures in
     noted c.args.faults.now.items c.items.new.faults.items c.main_of.new.faults.items
-    (items_judged f first_structs 0 items).faults (main_in c.args.length (number_in (f main_name))).faults
+    (items_judged f first_structs 0 items).faults (main_in c.args.tree.now.length (number_in (f main_name))).faults
     c.in_ok-defined.ensures.faults c.in_ok-main.ensures.faults
     ∙ ap (λ (j : Judged (List Function × ℕ)). c.args.faults.now.items ++ j.faults) same

@@ -1,6 +1,6 @@
 ghost use Rattle.std.specs.Prelude.{◌≡◌, IfOk};
 
-use super::{Expr, Link, Place, Root, Selection};
+use super::{Expr, Link, MpiCall, Place, Root, Selection, Target};
 use sqlite_items::{Boxed, Items};
 use std::alloc::{AllocError, Global};
 
@@ -104,6 +104,8 @@ fn selection(alloc: Global, step: &Selection<Expr>) -> Result<Selection<Expr>, A
             member: *member,
             place: *place,
         }),
+        Selection::Follow => Ok(Selection::Follow),
+        Selection::Checked => Ok(Selection::Checked),
     }
 }
 
@@ -128,4 +130,39 @@ fn links(alloc: Global, links: &[Link<Expr>]) -> Result<Items<Link<Expr>>, Alloc
         })?;
     }
     Ok(copies)
+}
+
+/// Equal expressions.
+pub fn copies(alloc: Global, es: &[Expr]) -> Result<Items<Expr>, AllocError>
+    ensures { IfOk result (λ copies. copies ≡ es.now) }
+{
+    let mut copies = Items::new(alloc);
+    for e in es {
+        copies.push(e.copy(alloc)?)?;
+    }
+    Ok(copies)
+}
+
+impl Target {
+    /// An equal target.
+    pub fn copy(&self, alloc: Global) -> Result<Target, AllocError>
+        ensures { IfOk result (λ copy. copy ≡ self.now) }
+    {
+        Ok(Target {
+            place: self.place.copy(alloc)?,
+            kind: self.kind,
+        })
+    }
+}
+
+impl MpiCall {
+    /// An equal call.
+    pub fn copy(&self, alloc: Global) -> Result<MpiCall, AllocError>
+        ensures { IfOk result (λ copy. copy ≡ self.now) }
+    {
+        Ok(MpiCall {
+            function: self.function,
+            arguments: copies(alloc, self.arguments.as_slice())?,
+        })
+    }
 }

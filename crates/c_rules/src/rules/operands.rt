@@ -86,12 +86,9 @@ pub fn dereference(
     if faults.len() > before {
         return Ok(None);
     }
-    let whole = target_place(alloc, value(alloc, a)?);
-    Ok(Some(place(
-        at,
-        one_object(alloc, structs, target(kind)),
-        Boxed::new(alloc, whole)?,
-    )))
+    let whole = target_place(alloc, a)?;
+    let inner = one_object(alloc, structs, target(kind));
+    Ok(Some(place(at, inner, whole)))
 }
 
 /// `&`.

@@ -10,12 +10,9 @@ ghost use Rattle.c_rules.specs.Types as types;
 use crate::fault::{Fault, rule};
 use crate::found::{Form, Found};
 use crate::rules::values::{
-    element_place, kind_of, note_pointer, number, place, step_to, target_place, value, value_at,
-    zero,
+    element_place, kind_of, note_pointer, number, place, step_to, target_place, value,
 };
-use crate::types::{
-    element, element_cells, integer, is_array, is_struct, is_target, one_object, target, value_type,
-};
+use crate::types::{element, element_cells, is_array, is_struct, is_target, one_object, target};
 use c_kernel::program::{Expr, Place, Selection};
 use c_kernel::{Base, CType, Member, ObjectType, Struct};
 use c_tree::Kind;
@@ -45,40 +42,37 @@ fn note_base(faults: &mut Vec<Fault>, a: &Found) -> Result<(), AllocError>
 fn element_of_array(
     alloc: Global,
     at: u32,
-    kind: ObjectType,
+    kind: &ObjectType,
     array: Boxed<Place<Expr>>,
     index: Boxed<Expr>,
 ) -> Result<Found, AllocError>
-    ensures { IfOk result (λ found. found ≡ rules.place at (types.element kind) (rules.element_place kind array index)) }
+    ensures { IfOk result (λ found. found ≡ rules.place at (types.element kind.now) (rules.element_place kind.now array index)) }
 {
-    let inner = element_place(alloc, &kind, array.into_inner(), index.into_inner())?;
-    Ok(place(at, element(alloc, &kind)?, Boxed::new(alloc, inner)?))
+    let inner = element_place(alloc, kind, array, index)?;
+    Ok(place(at, element(alloc, kind)?, inner))
 }
 
 // An element from where a pointer points on.
 fn element_from(
     alloc: Global,
     structs: &[Struct],
-    at: u32,
-    kind: CType,
-    pointer: Boxed<Expr>,
+    a: Found,
     index: Boxed<Expr>,
 ) -> Result<Found, AllocError>
-    ensures { IfOk result (λ found. found ≡ rules.place at (types.one_object structs.now kind) (rules.step_to (rules.target_place pointer) (Selection.Element index (types.element_cells structs.now kind)))) }
+    ensures { IfOk result (λ found. found ≡ rules.place a.at (types.one_object structs.now (types.target (rules.kind_of a))) (rules.step_to (rules.target_place a) (Selection.Element index (types.element_cells structs.now (types.target (rules.kind_of a)))))) }
 {
+    let at = a.at;
+    let kind = target(kind_of(&a));
+    let whole = target_place(alloc, a)?;
     let step = Selection::Element {
         index: index.into_inner(),
         cells: element_cells(structs, kind),
     };
-    let inner = step_to(target_place(alloc, pointer), step)?;
-    Ok(place(
-        at,
-        one_object(alloc, structs, kind),
-        Boxed::new(alloc, inner)?,
-    ))
+    let inner = step_to(alloc, whole, step)?;
+    Ok(place(at, one_object(alloc, structs, kind), inner))
 }
 
-// An element of an array, or from where the pointer that is read at a place points on.
+// An element of an array, or from where the pointer at a place points on.
 fn element_at(
     alloc: Global,
     structs: &[Struct],
@@ -90,11 +84,10 @@ fn element_at(
     ensures { IfOk result (λ found. found ≡ rules.element_found structs.now (rules.place at kind place) index) }
 {
     if is_array(&kind) {
-        return element_of_array(alloc, at, kind, place, index);
+        return element_of_array(alloc, at, &kind, place, index);
     }
-    let inner = target(value_type(&kind));
-    let pointer = value_at(alloc, kind, place)?;
-    element_from(alloc, structs, at, inner, pointer, index)
+    let form = Form::Place { kind, place };
+    element_from(alloc, structs, Found { at, form }, index)
 }
 
 fn element_found(
@@ -107,12 +100,8 @@ fn element_found(
 {
     let at = a.at;
     match a.form {
-        Form::Zero(kind) => {
-            let inner = target(integer(kind));
-            element_from(alloc, structs, at, inner, zero(alloc, kind)?, index)
-        }
-        Form::Value { kind, term } => element_from(alloc, structs, at, target(kind), term, index),
         Form::Place { kind, place } => element_at(alloc, structs, at, kind, place, index),
+        form => element_from(alloc, structs, Found { at, form }, index),
     }
 }
 
@@ -199,7 +188,7 @@ fn selected(
     structs: &[Struct],
     at: u32,
     kind: CType,
-    whole: Place<Expr>,
+    whole: Boxed<Place<Expr>>,
     name: &MemberName,
 ) -> Result<Option<Found>, AllocError>
     ensures found { IfOk result (λ found. found ≡ (rules.selected structs.now at kind whole name.now).found) }
@@ -216,21 +205,21 @@ fn selected(
                 member,
                 place: found.place,
             };
-            let inner = Boxed::new(alloc, step_to(whole, step)?)?;
+            let inner = step_to(alloc, whole, step)?;
             Ok(Some(place(at, found.kind.copy(alloc)?, inner)))
         }
     }
 }
 
 // The struct that is a place.
-fn struct_place(a: Found) -> Option<(CType, Place<Expr>)>
+fn struct_place(a: Found) -> Option<(CType, Boxed<Place<Expr>>)>
     ensures { result ≡ rules.struct_place a }
 {
     match a.form {
         Form::Zero(_) | Form::Value { .. } => None,
         Form::Place { kind, place } => {
             if !is_array(&kind) && is_struct(kind.element) {
-                Some((kind.element, place.into_inner()))
+                Some((kind.element, place))
             } else {
                 None
             }
@@ -287,6 +276,6 @@ pub fn arrow(
     if faults.len() > before {
         return Ok(None);
     }
-    let whole = target_place(alloc, value(alloc, a)?);
+    let whole = target_place(alloc, a)?;
     selected(alloc, faults, structs, at, target(kind), whole, name)
 }

@@ -1,7 +1,8 @@
 //! What is found, and its value.
 
-ghost use Rattle.std.specs.Prelude.{◌≡◌, ◌++◌, pos, IfOk, OnOk};
+ghost use Rattle.std.specs.Prelude.{◌≡◌, [], ◌++◌, pos, IfOk, OnOk};
 ghost use Rattle.c_rules.specs.Rules as rules;
+ghost use Rattle.c_rules.specs.declared.found.Form.TheVariants as form;
 ghost use Rattle.c_rules.specs.Types as types;
 
 use crate::fault::{Fault, rule};
@@ -67,9 +68,9 @@ pub fn variable(alloc: Global, number: usize) -> Place<Expr>
     }
 }
 
-/// The place that a pointer points to.
-pub fn target_place(alloc: Global, pointer: Boxed<Expr>) -> Place<Expr>
-    ensures { result ≡ rules.target_place pointer }
+// What a pointer that stands at no place points to.
+fn pointed(alloc: Global, pointer: Boxed<Expr>) -> Place<Expr>
+    ensures { result ≡ record { root = Root.Target pointer; steps = [] } }
 {
     Place {
         root: Root::Target(pointer),
@@ -77,26 +78,72 @@ pub fn target_place(alloc: Global, pointer: Boxed<Expr>) -> Place<Expr>
     }
 }
 
+/// What a pointer points to.
+pub fn target_place(alloc: Global, a: Found) -> Result<Boxed<Place<Expr>>, AllocError>
+    ensures { IfOk result (λ place. place ≡ rules.target_place a) }
+{
+    match a.form {
+        Form::Zero(kind) => {
+            let pointer = zero(alloc, kind)?;
+            Boxed::new(alloc, pointed(alloc, pointer))
+        }
+        Form::Value { term, .. } => Boxed::new(alloc, pointed(alloc, term)),
+        Form::Place { kind, place } => followed(alloc, &kind, place),
+    }
+}
+
+// What the pointer at a place points to, or the one that the array there stands for.
+fn followed(
+    alloc: Global,
+    kind: &ObjectType,
+    place: Boxed<Place<Expr>>,
+) -> Result<Boxed<Place<Expr>>, AllocError>
+    ensures { IfOk result (λ next. next ≡ rules.target_in (form.Place kind.now place)) }
+{
+    if is_array(kind) {
+        let first = first_place(alloc, kind, place)?;
+        return step_to(alloc, first, Selection::Checked);
+    }
+    step_to(alloc, place, Selection::Follow)
+}
+
 /// What is selected at a place.
-pub fn step_to(place: Place<Expr>, step: Selection<Expr>) -> Result<Place<Expr>, AllocError>
+pub fn step_to(
+    alloc: Global,
+    place: Boxed<Place<Expr>>,
+    step: Selection<Expr>,
+) -> Result<Boxed<Place<Expr>>, AllocError>
     ensures { IfOk result (λ next. next ≡ rules.step_to place step) }
 {
-    let Place { root, mut steps } = place;
+    let Place { root, mut steps } = place.into_inner();
     steps.push(step)?;
-    Ok(Place { root, steps })
+    Boxed::new(alloc, Place { root, steps })
 }
 
 /// The place of an array's element.
 pub fn element_place(
     alloc: Global,
     kind: &ObjectType,
-    place: Place<Expr>,
-    index: Expr,
-) -> Result<Place<Expr>, AllocError>
+    place: Boxed<Place<Expr>>,
+    index: Boxed<Expr>,
+) -> Result<Boxed<Place<Expr>>, AllocError>
     ensures { IfOk result (λ next. next ≡ rules.element_place kind.now place index) }
 {
     let cells = element(alloc, kind)?.cells;
-    step_to(place, Selection::Element { index, cells })
+    let index = index.into_inner();
+    step_to(alloc, place, Selection::Element { index, cells })
+}
+
+// The place of an array's first element.
+fn first_place(
+    alloc: Global,
+    kind: &ObjectType,
+    place: Boxed<Place<Expr>>,
+) -> Result<Boxed<Place<Expr>>, AllocError>
+    ensures { IfOk result (λ first. first ≡ rules.element_place kind.now place rules.zero_number) }
+{
+    let index = zero(alloc, IntegerType::Int)?;
+    element_place(alloc, kind, place, index)
 }
 
 /// What stands at a place.
@@ -108,12 +155,8 @@ pub fn value_at(
     ensures { IfOk result (λ e. e ≡ rules.value_at kind place) }
 {
     if is_array(&kind) {
-        let zero = Expr::Number {
-            value: 0,
-            kind: IntegerType::Int,
-        };
-        let first = element_place(alloc, &kind, place.into_inner(), zero)?;
-        return Boxed::new(alloc, Expr::Address(first));
+        let first = first_place(alloc, &kind, place)?;
+        return Boxed::new(alloc, Expr::Address(first.into_inner()));
     }
     Boxed::new(
         alloc,

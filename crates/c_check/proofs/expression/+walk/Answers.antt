@@ -1,23 +1,75 @@
-use Rattle.std.proofs.Common.{◌≡◌, ◌++◌, ◌∙◌, List, ap, sym, subst, IfOk, OnOk}
+use Rattle.std.proofs.Common.{◌≡◌, ◌+◌, ◌++◌, ◌∙◌, List, Option, drop, arith, ap, sym, subst, IfOk}
 use Rattle.std.proofs.lemmas.Result.{on_ok_weaker}
 use Rattle.c_tree.specs.declared.tree.Expr.{Expr}
-use Rattle.c_rules.specs.declared.fault.Fault.{Fault}
+use Rattle.c_tree.specs.declared.tree.Suffix.{Suffix}
 use Rattle.c_rules.specs.declared.found.Found.{Found}
 use Rattle.c_rules.specs.Judged.{Judged}
+use Rattle.c_rules.specs.Rules as rules
 use Rattle.c_rules.specs.Scope.{scope_of}
 use Rattle.c_rules.specs.Table.{called}
-use Rattle.c_check.specs.Expression.{judged, judged_links, whole_chain, whole_choice}
-use Rattle.c_check.proofs.Nodes.{judged_call, judged_chain, judged_choice, choice_noted}
+use Rattle.c_check.specs.Expression.{judged, judged_primary, judged_suffix, judged_suffixes, judged_links, whole_prefix, whole_chain, whole_choice}
+use Rattle.c_check.proofs.Nodes.{suffix_step, judged_postfix, judged_prefix, judged_chain, judged_choice, rest_noted, choice_noted}
 use Rattle.c_check.proofs.expression.+walk.Goals as goal
 
-pub expression-returns-in-Call-clause-faults : goal.expression-returns-in-Call-clause-faults
-expression-returns-in-Call-clause-faults t c =
+pub suffixed-loop-x-preserved : goal.suffixed-loop-x-preserved
+suffixed-loop-x-preserved t c =
     let f = called c.args.functions.now.entries in
     let structs = c.args.structs.now in
     let s = scope_of c.args.scope.now in
-    subst (λ (fs : List Fault). OnOk c.misplaced.result (c.misplaced.new.faults.items ≡ c.args.faults.now.items ++ fs))
-    (sym (ap (λ (e : Expr). (judged f structs s e).faults) c.in-Call.is ∙ ap (λ j. j.faults) (judged_call f structs s c.in-Call.name c.in-Call.arguments)))
-    c.misplaced.ensures.faults
+    let i = c.loop-x.x-index in
+    let x = c.x-item.result in
+    let rest = λ (a : Option Found). judged_suffixes f structs s a (drop (i + 1) c.args.suffixes.now) in
+    let next = suffix_step f structs s c.args.suffixes.now i x c.loop-x.found (omega arith) c.x-item.is in
+    record {
+      found =
+          ap (λ (a : Option Found). (rest a).found) c.in_ok-found.ensures.found
+          ∙ sym (ap (λ (j : Judged Found). j.found) next)
+          ∙ c.loop-x.invariant.found;
+      faults =
+          rest_noted (judged_suffix f structs s c.loop-x.found x) _ c.in_ok-found.found rest c.loop-x.faults.items c.suffix_of.new.faults.items
+          next c.in_ok-found.ensures.found c.in_ok-found.ensures.faults
+          ∙ c.loop-x.invariant.faults;
+    }
+
+pub expression-returns-in_ok-a-in-Postfix-clause-found : goal.expression-returns-in_ok-a-in-Postfix-clause-found
+expression-returns-in_ok-a-in-Postfix-clause-found t c =
+    let f = called c.args.functions.now.entries in
+    let structs = c.args.structs.now in
+    let s = scope_of c.args.scope.now in
+    let whole = ap (judged f structs s) c.in-Postfix.is ∙ judged_postfix f structs s c.in-Postfix.primary c.in-Postfix.suffixes in
+    subst (λ (o : Option Found). IfOk c.suffixed.result (λ found. found ≡ o))
+    (ap (λ (xs : List (Suffix Expr)). (judged_suffixes f structs s c.in_ok-a-in-Postfix.a xs).found) c.as_slice.ensures
+    ∙ ap (λ (a : Option Found). (judged_suffixes f structs s a c.in-Postfix.suffixes).found) c.in_ok-a-in-Postfix.ensures.found
+    ∙ sym (ap (λ (j : Judged Found). j.found) whole))
+    c.suffixed.ensures.found
+
+pub expression-returns-in_ok-a-in-Postfix-clause-faults : goal.expression-returns-in_ok-a-in-Postfix-clause-faults
+expression-returns-in_ok-a-in-Postfix-clause-faults t c =
+    let f = called c.args.functions.now.entries in
+    let structs = c.args.structs.now in
+    let s = scope_of c.args.scope.now in
+    let whole = ap (judged f structs s) c.in-Postfix.is ∙ judged_postfix f structs s c.in-Postfix.primary c.in-Postfix.suffixes in
+    on_ok_weaker c.suffixed.result
+    (λ rest. rest
+    ∙ ap (λ (xs : List (Suffix Expr)). c.primary_of.new.faults.items ++ (judged_suffixes f structs s c.in_ok-a-in-Postfix.a xs).faults) c.as_slice.ensures
+    ∙ rest_noted (judged_primary f structs s c.in-Postfix.primary) _ c.in_ok-a-in-Postfix.a (λ a. judged_suffixes f structs s a c.in-Postfix.suffixes) c.args.faults.now.items c.primary_of.new.faults.items
+    whole c.in_ok-a-in-Postfix.ensures.found c.in_ok-a-in-Postfix.ensures.faults)
+    c.suffixed.ensures.faults
+
+pub expression-returns-in_ok-a-in-Prefix-clause-faults : goal.expression-returns-in_ok-a-in-Prefix-clause-faults
+expression-returns-in_ok-a-in-Prefix-clause-faults t c =
+    let f = called c.args.functions.now.entries in
+    let structs = c.args.structs.now in
+    let s = scope_of c.args.scope.now in
+    let whole =
+    ap (judged f structs s) c.in-Prefix.is
+    ∙ judged_prefix f structs s c.in-Prefix.at c.in-Prefix.operator c.in-Prefix.operand
+    ∙ ap (λ (e : Expr). whole_prefix structs c.in-Prefix.at c.in-Prefix.operator (judged f structs s e)) (sym c.get-in-Prefix.ensures) in
+    on_ok_weaker c.prefix.result
+    (λ rest. rest
+    ∙ rest_noted (judged f structs s c.get-in-Prefix.result.now) _ c.in_ok-a-in-Prefix.a (rules.prefix structs c.in-Prefix.at c.in-Prefix.operator) c.args.faults.now.items c.expression.new.faults.items
+    whole c.in_ok-a-in-Prefix.ensures.found c.in_ok-a-in-Prefix.ensures.faults)
+    c.prefix.ensures.faults
 
 pub expression-returns-in-Chain-clause-found : goal.expression-returns-in-Chain-clause-found
 expression-returns-in-Chain-clause-found t c =

@@ -4,7 +4,7 @@ use Rattle.c_tree.specs.declared.tree.Expr.TheShapes as shapes
 use Rattle.c_rules.specs.Scope.{scope_of}
 use Rattle.c_rules.specs.Table.{called}
 use Rattle.c_rules.specs.Judged.{together}
-use Rattle.c_check.specs.Expression.{chain, judged_links, judged_all}
+use Rattle.c_check.specs.Expression.{chain, judged_suffixes, judged_links, judged_all}
 use Rattle.c_rules.proofs.Gathered.{joined}
 use Rattle.c_check.proofs.expression.+walk.Given as goal
 
@@ -19,8 +19,14 @@ decreases-no_part l = 8 * goal.size-no_part l + 1
 abbrev pub decreases-whole_cast : goal.decreases-whole_cast
 decreases-whole_cast l = 8 * goal.size-whole_cast l + 1
 
-abbrev pub decreases-whole_index : goal.decreases-whole_index
-decreases-whole_index l = 8 * max (goal.size-whole_index l) (the_size l.at.now) + 1
+abbrev pub decreases-primary_of : goal.decreases-primary_of
+decreases-primary_of l = 8 * goal.size-primary_of l + 3
+
+abbrev pub decreases-suffix_of : goal.decreases-suffix_of
+decreases-suffix_of l = 8 * goal.size-suffix_of l + 1
+
+abbrev pub decreases-suffixed : goal.decreases-suffixed
+decreases-suffixed l = 8 * goal.size-suffixed l + 2
 
 abbrev pub decreases-chain : goal.decreases-chain
 decreases-chain l = 8 * goal.size-chain l + 1
@@ -31,11 +37,19 @@ decreases-whole_chain l = 8 * max (goal.size-whole_chain l) (shapes.weighed-Expr
 abbrev pub decreases-expressions : goal.decreases-expressions
 decreases-expressions l = 8 * goal.size-expressions l + 1
 
-abbrev pub decreases-invoked : goal.decreases-invoked
-decreases-invoked l = 8 * goal.size-invoked l + 2
-
 abbrev pub decreases-misplaced : goal.decreases-misplaced
-decreases-misplaced l = 8 * goal.size-misplaced l + 3
+decreases-misplaced l = 8 * goal.size-misplaced l + 2
+
+abbrev pub invariant-suffixed-loop-x : goal.invariant-suffixed-loop-x
+invariant-suffixed-loop-x l =
+    let f = called l.functions.entries in
+    let s = scope_of l.scope in
+    let rest = judged_suffixes f l.structs s l.found (drop l.x-index l.suffixes) in
+    let whole = judged_suffixes f l.structs s l.fn.a l.suffixes in
+    record {
+      found : rest.found ≡ whole.found;
+      faults : l.faults.items ++ rest.faults ≡ l.fn.faults.items ++ whole.faults;
+    }
 
 abbrev pub invariant-chain-loop-x : goal.invariant-chain-loop-x
 invariant-chain-loop-x l =
