@@ -176,6 +176,28 @@ outside = load_roll (element (figure 1) []) (scalar.Number Int) one seven ∙ ap
 back_inside : reached (moved (record { serial = 4; place = pos 0 }) (negsuc 0)) (selection.Member 0 1 1 ∷ []) one seven ≡ Ok (record { serial = 4; place = pos 0 })
 back_inside = refl
 
+-- x points to a struct { int v; struct s *n; }, whose n points to itself
+abbrev ring : Memory
+ring = record { variables = record { serial = 4; cells = pointer 5 (pos 0) ∷ [] } ∷ []; heap = record { serial = 5; cells = number (pos 3) ∷ pointer 5 (pos 0) ∷ [] } ∷ []; next = 6; calls = 1; asked = 2 }
+
+abbrev along : List (Selection Expr) → Memory → Result Spot ℕ
+along steps m = place_of (record { root = root.Variable 0; steps = steps }) one m
+
+-- x->n->n->v
+around : along (selection.Follow ∷ selection.Member 0 1 1 ∷ selection.Follow ∷ selection.Member 0 1 1 ∷ selection.Follow ∷ selection.Member 0 0 0 ∷ []) ring ≡ Ok (record { serial = 5; place = pos 0 })
+around = refl
+
+-- x->v->n, where the v is no pointer, so that it is NULL, and the load through it is a fault
+through_number : along (selection.Follow ∷ selection.Member 0 0 0 ∷ selection.Follow ∷ selection.Member 0 1 1 ∷ selection.Follow ∷ []) ring ≡ Err 101
+through_number = refl
+
+-- the place one past the struct, as a pointer that is followed; two past it there is none
+past_it : along (selection.Follow ∷ selection.Member 0 2 2 ∷ selection.Checked ∷ []) ring ≡ Ok (record { serial = 5; place = pos 2 })
+past_it = refl
+
+beyond_it : along (selection.Follow ∷ selection.Member 0 3 3 ∷ selection.Checked ∷ []) ring ≡ Err 110
+beyond_it = refl
+
 -- several: the first fault counts
 several : values_of (figure 1 ∷ loaded (place 0) ∷ []) one seven ≡ Ok (number (pos 1) ∷ number (pos 7) ∷ [])
 unfolding int_wrap

@@ -224,6 +224,8 @@ root_of (root.Target p) v m = then_with (p v m) (λ c. Ok (spot_of c))
 abbrev pub selected : Spot → Selection Meaning → Variables → Memory → Result Spot ℕ
 selected p (selection.Element index cells) v m = then_with (index v m) (λ n. moved p (n.word *ℤ pos cells))
 selected p (selection.Member structure member place) v m = moved p (pos place)
+selected p selection.Follow v m = then_with (load_of m scalar.Pointer p) (λ c. Ok (spot_of c))
+selected p selection.Checked v m = then_with (pointing m p) (λ c. Ok (spot_of c))
 
 abbrev pub reached : Result Spot ℕ → List (Selection Meaning) → Variables → Memory → Result Spot ℕ
 reached (Err code) steps v m = Err code
@@ -260,6 +262,8 @@ root_meaning (root.Target e) = root.Target (value_of e)
 abbrev pub step_meaning : Selection Expr → Selection Meaning
 step_meaning (selection.Element index cells) = selection.Element (value_of index) cells
 step_meaning (selection.Member structure member place) = selection.Member structure member place
+step_meaning selection.Follow = selection.Follow
+step_meaning selection.Checked = selection.Checked
 
 abbrev pub place_meaning : Place Expr → Place Meaning
 place_meaning p = record { root = root_meaning p.root; steps = map step_meaning p.steps }

@@ -49,13 +49,6 @@ impl Rank {
         Ok(Rank { program, running })
     }
 
-    /// The serial of the next object.
-    pub fn next_serial(&self) -> u64
-        ensures { result ≡ (state_of self.now).memory.next }
-    {
-        self.running.memory.next()
-    }
-
     /// Whether the next step begins a statement.
     pub fn begins(&self) -> bool
         ensures { result ≡ step.begins (state_of self.now) }

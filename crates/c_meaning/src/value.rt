@@ -113,6 +113,8 @@ fn selected(
             moved(spot, i128::from(n.word) * i128::from(*cells))
         }
         Selection::Member { place, .. } => moved(spot, i128::from(*place)),
+        Selection::Follow => Ok(Spot::of(load(memory, Scalar::Pointer, spot)?)),
+        Selection::Checked => Ok(Spot::of(memory.pointing(spot)?)),
     }
 }
 

@@ -8,3 +8,4 @@ mod Tables
 mod Splits
 pub mod Verdicts
 mod Found
+mod Counts

@@ -1,11 +1,9 @@
 //! Why a text is no schedule.
 
-#[cfg(test)]
-mod tests;
-
 ghost use Rattle.std.specs.Prelude.{◌≡◌};
 ghost use Rattle.job_schedule.specs.declared.fault.ScheduleFault.TheVariants.{NoMemory};
 
+use std::alloc::AllocFailed;
 use thiserror::Error;
 
 /// Why a text is no schedule. A place is the offset of a byte in the text.
@@ -19,10 +17,10 @@ pub enum ScheduleFault {
     NoMemory,
 }
 
-impl From<c3_base::NoMemory> for ScheduleFault {
+impl<T: Drop> From<AllocFailed<T>> for ScheduleFault {
     ghost from_gives = { λ _ e. e ≡ NoMemory };
 
-    fn from(_: c3_base::NoMemory) -> Self {
+    fn from(_: AllocFailed<T>) -> Self {
         ScheduleFault::NoMemory
     }
 }

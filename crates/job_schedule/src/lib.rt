@@ -14,4 +14,4 @@ mod schedule;
 
 pub use fault::ScheduleFault;
 pub use reading::read_schedule;
-pub use schedule::{Entry, Schedule, Word};
+pub use schedule::Schedule;

@@ -18,7 +18,7 @@ pub fn read_schedule(alloc: Global, text: &[u8]) -> Result<Schedule, ScheduleFau
     ensures right { IfSome (said result) (Reads text.now) }
     ensures exact { (a : Answer) → Reads text.now a → IfSome (said result) (λ b. b ≡ a) }
 {
-    let mut schedule = Schedule::new(alloc);
+    let mut entries = Vec::new(alloc);
     let mut count: u64 = 0;
     // Whether a word may begin here.
     let mut is_fresh = true;
@@ -28,7 +28,7 @@ pub fn read_schedule(alloc: Global, text: &[u8]) -> Result<Schedule, ScheduleFau
                 None => return Err(ScheduleFault::BadEvent { at: at as u32 }),
                 Some(entry) => {
                     count += entry.count();
-                    schedule.push(entry)?;
+                    entries.push(entry)?;
                 }
             }
         }
@@ -37,8 +37,5 @@ pub fn read_schedule(alloc: Global, text: &[u8]) -> Result<Schedule, ScheduleFau
     if count > MOST_EVENTS {
         return Err(ScheduleFault::TooMany { count });
     }
-    Ok(schedule)
+    Ok(Schedule::new(entries))
 }
-
-#[cfg(test)]
-mod tests;

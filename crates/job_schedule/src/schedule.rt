@@ -1,13 +1,12 @@
-ghost use Rattle.std.specs.Prelude.{◌≡◌, ◌+◌, ◌*◌, ◌<◌, ◌^◌, [], ◌∷◌, ◌++◌, IfOk, OnOk, OnErr};
-ghost use Rattle.job_schedule.specs.Events.{count_of, entry_events, events_of, word_events};
+ghost use Rattle.std.specs.Prelude.{◌≡◌, ◌*◌, ◌<◌, ◌≤◌, ◌^◌, ◌++◌, length, IfOk, OnOk};
+ghost use Rattle.job_schedule.specs.Events.{count_of, entry_events, events_of, total_of, word_events};
 
 use c3_base::NoMemory;
 use job_core::Event;
-use std::alloc::Global;
 use std::marker::Model;
 
 /// What a word stands for, without its repeats.
-#[derive(Clone, Copy, PartialEq, Eq, Debug)]
+#[derive(Clone, Copy)]
 pub enum Word {
     One(Event),
     /// A turn of each rank, from rank 0 on, and then a sweep.
@@ -15,7 +14,7 @@ pub enum Word {
 }
 
 /// What a word stands for, and how many times in a row.
-#[derive(Clone, Copy, PartialEq, Eq, Debug)]
+#[derive(Clone, Copy)]
 pub struct Entry {
     pub what: Word,
     pub repeats: u32,
@@ -63,49 +62,37 @@ impl Entry {
     }
 }
 
-/// The entries of a schedule in order.
-#[derive(Debug, Drop)]
+/// The entries of a schedule in order. They count as at most 200,000 events.
+#[derive(Drop)]
 pub struct Schedule {
     entries: Vec<Entry>,
 }
 
 impl Model for Schedule {
-    ghost use Rattle.std.specs.Prelude.{List};
+    ghost use Rattle.std.specs.Prelude.{List, ◌≤◌};
     ghost use Rattle.job_schedule.specs.declared.schedule.Entry as declared;
+    ghost use Rattle.job_schedule.specs.Events.{total_of};
 
     ghost Value = { List declared.Entry };
 
     ghost view = { λ s. s.entries.items };
+
+    ghost invariant = { λ s. total_of s.entries.items ≤ 200000 };
 }
 
 impl Schedule {
-    /// The empty schedule, which takes no memory.
-    pub(crate) fn new(alloc: Global) -> Self
-        ensures { result ≡ [] }
+    pub(crate) fn new(entries: Vec<Entry>) -> Self
+        requires { total_of entries.items ≤ 200000 }
+        ensures { result ≡ entries.items }
     {
-        Schedule {
-            entries: Vec::new(alloc),
-        }
-    }
-
-    pub fn entries(&self) -> &[Entry]
-        ensures { result.now ≡ self.now }
-    {
-        self.entries.as_slice()
-    }
-
-    /// Adds an entry at the end.
-    pub(crate) fn push(&mut self, entry: Entry) -> Result<(), NoMemory>
-        ensures ok { OnOk result (self.new ≡ self.old ++ entry ∷ []) }
-        ensures err { OnErr result (self.new ≡ self.old) }
-    {
-        self.entries.push(entry)?;
-        Ok(())
+        Schedule { entries }
     }
 
     /// The events for `n` ranks.
     pub fn events(&self, n: u16) -> Result<Vec<Event>, NoMemory>
-        ensures { IfOk result (λ events. events.items ≡ events_of n self.now) }
+        ensures events { IfOk result (λ events. events.items ≡ events_of n self.now) }
+        // A round counts as 65 events, and 64 ranks have no more in it.
+        ensures few { n ≤ 64 → IfOk result (λ events. length events.items ≤ 200000) }
     {
         let entries: &[Entry] = &self.entries;
         let mut events = Vec::new(*self.entries.allocator());

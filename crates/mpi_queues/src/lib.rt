@@ -5,8 +5,6 @@ mod channels;
 pub mod law;
 mod mailbox;
 mod queue;
-#[cfg(test)]
-mod tests;
 
 pub use channels::Channels;
 pub use mailbox::Mailbox;

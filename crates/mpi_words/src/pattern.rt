@@ -1,8 +1,5 @@
 //! What a receive takes.
 
-#[cfg(test)]
-mod tests;
-
 ghost use Rattle.std.specs.Prelude.{◌≡◌, [], ◌∷◌, IfOk};
 ghost use Rattle.mpi_words.specs.Matching as spec;
 

@@ -38,7 +38,7 @@ asked_goes : (functions : List Function) (s : State) (asked : Option Request) �
 asked_goes functions s None h = newest_goes functions is_full s s.calls h
 asked_goes functions s (Some q) h = absurd cc
 
-begun_goes : (functions : List Function) (x : Standing) → begins_next x ≡ true → is_last (outcome functions lowest x) ≡ false
+pub begun_goes : (functions : List Function) (x : Standing) → begins_next x ≡ true → is_last (outcome functions lowest x) ≡ false
 begun_goes functions (Runs s) h = asked_goes functions s s.asked h
 begun_goes functions (Ended e) h = absurd cc
 
@@ -71,10 +71,10 @@ pub record Stepped (k : ℕ) (m next : Member) (queues new : Queues) (did : Prog
   pub step : (ranks : List Rank) → stepped (runs_of m) lowest (record { ranks = ranks; queues = queues }) k (rank_of m) ≡ job_with ranks k next new
   pub progress : (ranks : List Rank) → did ≡ progress (record { ranks = ranks; queues = queues }) k (outcome (runs_of m) lowest (rank_of m).standing)
 
-stepped_with : (ranks : List Rank) (k : ℕ) (m next : Member) (queues new : Queues) (did : Progress) → Stepped k m next queues new did → stepped (runs_of m) lowest (job_with ranks k m queues) k (rank_of m) ≡ job_with ranks k next new
+pub stepped_with : (ranks : List Rank) (k : ℕ) (m next : Member) (queues new : Queues) (did : Progress) → Stepped k m next queues new did → stepped (runs_of m) lowest (job_with ranks k m queues) k (rank_of m) ≡ job_with ranks k next new
 stepped_with ranks k m next queues new did s = s.step (slice_set ranks k (rank_of m)) ∙ ap (λ rs. record { ranks = rs; queues = new }) (set-set ranks k (rank_of m) (rank_of next))
 
-last_with : (ranks : List Rank) (k : ℕ) (m next : Member) (queues new : Queues) (did : Progress) (over : Bool) → Stepped k m next queues new did → over ≡ ends did → is_last (outcome (runs_of m) lowest (rank_of m).standing) ≡ over
+pub last_with : (ranks : List Rank) (k : ℕ) (m next : Member) (queues new : Queues) (did : Progress) (over : Bool) → Stepped k m next queues new did → over ≡ ends did → is_last (outcome (runs_of m) lowest (rank_of m).standing) ≡ over
 last_with ranks k m next queues new did over s e = last_by (job_with ranks k m queues) k (outcome (runs_of m) lowest (rank_of m).standing) did over (s.progress (slice_set ranks k (rank_of m))) e
 
 -- ---- a step of a turn
@@ -123,7 +123,7 @@ asked_effect functions job k s None h = absurd cc
 asked_effect functions job k s (Some q) h = possible_if _
 
 -- how a member stands that hasn't ended
-runs_member : (m : Member) → m.end ≡ None → (rank_of m).standing ≡ Runs (state_of m.rank)
+pub runs_member : (m : Member) → m.end ≡ None → (rank_of m).standing ≡ Runs (state_of m.rank)
 runs_member m e = ap (λ o. elim o [ None ↦ Runs (state_of m.rank) | Some x ↦ Ended x ]) e
 
 pub waiting_turn : (ranks : List Rank) (k n : ℕ) (m next : Member) (queues new : Queues) (did : Progress) → k < length ranks → m.end ≡ None → is_some (state_of m.rank).asked ≡ true → Stepped k m next queues new did → Steps (runs_of m) k n (job_with ranks k m queues) (job_with ranks k next new)

@@ -4,3 +4,8 @@ pub mod LastSteps
 pub mod Operations
 pub mod Ranks
 pub mod Examples
+pub mod RegularParts
+pub mod Nexts
+pub mod StepSerials
+pub mod TurnSerials
+pub mod Rooms

@@ -1,7 +1,7 @@
 -- The ranks of a job in the program.
-use Rattle.std.proofs.Common.{◌≡◌, ℕ, ◌+◌, ◌<◌, ◌≤◌, Bool, true, false, List, [], ◌∷◌, ◌++◌, length, map, replicate, get_or, Option, Some, None, Result, Ok, Err, is_some, refl, sym, ap, ◌∙◌, subst, arith}
+use Rattle.std.proofs.Common.{◌≡◌, ℕ, ◌+◌, ◌<◌, ◌≤◌, Bool, true, false, List, [], ◌∷◌, ◌++◌, length, map, replicate, get_or, Option, Some, None, is_some, refl, sym, ap, ◌∙◌, subst, arith}
 use Rattle.std.specs.List.{range_with_len}
-use Rattle.std.specs.Prelude.{All, IfOk, slice_get, slice_set, option_map}
+use Rattle.std.specs.Prelude.{All, slice_get, slice_set, option_map}
 use Rattle.std.proofs.Math.Logic.{∥∥₁_elim, ∥∥₁_map}
 use Rattle.std.proofs.lemmas.List.{length-map, length-replicate, map-append, map-set}
 use Rattle.std.proofs.lemmas.List.Elements.{All-push, All-set}
@@ -19,7 +19,7 @@ use Rattle.plain_job.specs.Job.{Runs, Ended, Rank, Job, first}
 use Rattle.plain_job.specs.Turn.{absent, turn_limit, IsTurn, can_step, has_step}
 use Rattle.plain_job.specs.Members.{rank_of, runs_of, job_with}
 use Rattle.plain_job.specs.declared.member.Member.{Member}
-use Rattle.plain_job.proofs.Idle.{put_same, idle_rank, turn_idle}
+use Rattle.plain_job.proofs.Idle.{put_same, idle_rank}
 
 -- one more rank
 pub pushed_all : (functions : List Function) (ms after : List Member) (m : Member) → after ≡ ms ++ m ∷ [] → All (λ x. runs_of x ≡ functions) ms → runs_of m ≡ functions → All (λ x. runs_of x ≡ functions) after
@@ -58,22 +58,17 @@ job_of_members ms queues = record { ranks = map rank_of ms; queues = queues }
 same_job : (ms : List Member) (k : ℕ) (m : Member) (queues : Queues) → IsAt ms k m → job_with (map rank_of ms) k m queues ≡ job_of_members ms queues
 same_job ms k m queues at = ap (λ rs. record { ranks = rs; queues = queues }) (put_same (map rank_of ms) k (rank_of m) (stands_at ms k m at))
 
-turn_at : (functions : List Function) (ms : List Member) (k : ℕ) (m next : Member) (queues new : Queues) → IsAt ms k m → runs_of m ≡ functions → ((ranks : List Rank) → k < length ranks → IsTurn (runs_of m) (job_with ranks k m queues) k (job_with ranks k next new)) → IsTurn functions (job_of_members ms queues) k (job_of_members (slice_set ms k next) new)
+pub turn_at : (functions : List Function) (ms : List Member) (k : ℕ) (m next : Member) (queues new : Queues) → IsAt ms k m → runs_of m ≡ functions → ((ranks : List Rank) → k < length ranks → IsTurn (runs_of m) (job_with ranks k m queues) k (job_with ranks k next new)) → IsTurn functions (job_of_members ms queues) k (job_of_members (slice_set ms k next) new)
 turn_at functions ms k m next queues new at runs h =
     let after : job_with (map rank_of ms) k next new ≡ job_of_members (slice_set ms k next) new = ap (λ rs. record { ranks = rs; queues = new }) (sym (map-set rank_of ms k next)) in
     let turn : IsTurn functions (job_with (map rank_of ms) k m queues) k (job_with (map rank_of ms) k next new) = subst (λ f. IsTurn f (job_with (map rank_of ms) k m queues) k (job_with (map rank_of ms) k next new)) runs (h (map rank_of ms) (omega (arith, at.0, length-map ms rank_of))) in
     subst (IsTurn functions (job_of_members ms queues) k) after (subst (λ j. IsTurn functions j k (job_with (map rank_of ms) k next new)) (same_job ms k m queues at) turn)
 
-pub turned : {E : Type 0} (functions : List Function) (ms : List Member) (k : ℕ) (m next : Member) (queues new : Queues) (result : Result Bool E) → IsAt ms k m → runs_of m ≡ functions → IfOk result (λ did. (ranks : List Rank) → k < length ranks → IsTurn (runs_of m) (job_with ranks k m queues) k (job_with ranks k next new)) → IfOk result (λ did. IsTurn functions (job_of_members ms queues) k (job_of_members (slice_set ms k next) new))
-turned functions ms k m next queues new (Ok did) at runs h = turn_at functions ms k m next queues new at runs h
-turned functions ms k m next queues new (Err e) at runs h = h
-
 has_at : (ms : List Member) (k : ℕ) (m : Member) (queues : Queues) → IsAt ms k m → has_step (job_of_members ms queues) k ≡ can_step (job_of_members ms queues) k (rank_of m).standing
 has_at ms k m queues at = ap (λ o. elim o [ None ↦ false | Some r ↦ can_step (job_of_members ms queues) k r.standing ]) (stands_at ms k m at)
 
-pub turned_effect : {E : Type 0} (ms : List Member) (k : ℕ) (m : Member) (queues : Queues) (result : Result Bool E) → IsAt ms k m → IfOk result (λ did. (ranks : List Rank) → did ≡ can_step (job_with ranks k m queues) k (rank_of m).standing) → IfOk result (λ did. did ≡ has_step (job_of_members ms queues) k)
-turned_effect ms k m queues (Ok did) at h = h (map rank_of ms) ∙ ap (λ j. can_step j k (rank_of m).standing) (same_job ms k m queues at) ∙ sym (has_at ms k m queues at)
-turned_effect ms k m queues (Err e) at h = h
+pub effect_at : (ms : List Member) (k : ℕ) (m : Member) (queues : Queues) (did : Bool) → IsAt ms k m → ((ranks : List Rank) → did ≡ can_step (job_with ranks k m queues) k (rank_of m).standing) → did ≡ has_step (job_of_members ms queues) k
+effect_at ms k m queues did at h = h (map rank_of ms) ∙ ap (λ j. can_step j k (rank_of m).standing) (same_job ms k m queues at) ∙ sym (has_at ms k m queues at)
 
 -- ---- a rank that has ended
 
@@ -102,9 +97,3 @@ absent_turn functions ms k queues h = absent turn_limit (job_of_members ms queue
 
 pub absent_effect : (ms : List Member) (k : ℕ) (queues : Queues) → length ms ≤ k → false ≡ has_step (job_of_members ms queues) k
 absent_effect ms k queues h = sym (ap (λ o. elim o [ None ↦ false | Some r ↦ can_step (job_of_members ms queues) k r.standing ]) (past ms k h))
-
--- ---- a turn without a step to make
-
-pub idle_same : {E : Type 0} (functions : List Function) (job : Job) (k : ℕ) (after : Job) (result : Result Bool E) → IfOk result (λ did. IsTurn functions job k after) → IfOk result (λ did. did ≡ has_step job k) → IfOk result (λ did. did ≡ false → after ≡ job)
-idle_same functions job k after (Ok did) h e = λ no. turn_idle functions job k after (sym e ∙ no) h
-idle_same functions job k after (Err error) h e = h

@@ -1,4 +1,5 @@
 pub mod Job
 pub mod Turn
+pub mod Serials
 pub mod Members
 pub mod Plain

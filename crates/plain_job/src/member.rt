@@ -1,6 +1,7 @@
 //! A rank of a job.
 
-ghost use Rattle.std.specs.Prelude.{◌≡◌, ◌<◌, length, IfOk, None, List};
+ghost use Rattle.std.specs.Prelude.{◌≡◌, ◌<◌, ◌^◌, length, IfOk, None, List};
+ghost use Rattle.c_meaning.specs.Rank.{state_of};
 ghost use Rattle.plain_job.specs.Job as spec;
 ghost use Rattle.plain_job.specs.Job.{first, outcome, stepped};
 ghost use Rattle.plain_job.specs.Members.{rank_of, runs_of, job_with, progress, ends, had_step};
@@ -80,6 +81,8 @@ impl Member {
     /// One step of a rank that hasn't ended, the `me`-th.
     pub fn step(&mut self, me: u16, channels: &mut Channels) -> Result<Progress, NoMemory>
         requires runs { self.old.end ≡ None }
+        requires few { self.old.ops < 2 ^ 62 }
+        requires serials { (state_of self.old.rank).memory.next < 2 ^ 62 }
         requires rank { me < length channels.old }
         ensures functions { runs_of self.new ≡ runs_of self.old }
         ensures ranks { length channels.new ≡ length channels.old }
@@ -87,9 +90,6 @@ impl Member {
         ensures progress { IfOk result (λ did. (ranks : List spec.Rank) → did ≡ progress (record { ranks = ranks; queues = channels.old }) me (outcome (runs_of self.old) lowest (rank_of self.old).standing)) }
         ensures runs { IfOk result (λ did. did ≡ variant.Went → self.new.end ≡ None) }
     {
-        if (1 << 62) <= self.rank.next_serial() {
-            return Err(NoMemory);
-        }
         match self.rank.step()? {
             Step::Local { began: _ } => Ok(Progress::Went),
             Step::Wants(op) => self.operate(me, op, channels),

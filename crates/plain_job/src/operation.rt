@@ -1,6 +1,6 @@
 //! The operations of a rank.
 
-ghost use Rattle.std.specs.Prelude.{◌≡◌, ◌<◌, ◌++◌, suc, length, IfOk, None, List};
+ghost use Rattle.std.specs.Prelude.{◌≡◌, ◌<◌, ◌^◌, ◌++◌, suc, length, IfOk, None, List};
 ghost use Rattle.mpi_words.specs.declared.operation.Op.TheVariants as op;
 ghost use Rattle.mpi_queues.specs.Pairs.{sent};
 ghost use Rattle.c_meaning.specs.Rank.{state_of};
@@ -24,6 +24,7 @@ impl Member {
         channels: &mut Channels,
     ) -> Result<Progress, NoMemory>
         requires runs { self.old.end ≡ None }
+        requires few { self.old.ops < 2 ^ 62 }
         requires rank { me < length channels.old }
         ensures functions { runs_of self.new ≡ runs_of self.old }
         ensures ranks { length channels.new ≡ length channels.old }
@@ -33,52 +34,46 @@ impl Member {
         match op {
             Op::Send { to, message } => {
                 post(channels, me, to, message)?;
-                self.complete(Reply::Done)
+                Ok(self.complete(Reply::Done))
             }
-            Op::Receive { patterns } => self.receive(me, &patterns, channels),
+            Op::Receive { patterns } => Ok(self.receive(me, &patterns, channels)),
             Op::Output(text) => {
                 self.output.extend_from_slice(text.as_slice())?;
-                self.complete(Reply::Done)
+                Ok(self.complete(Reply::Done))
             }
-            Op::Mark => self.complete(Reply::Done),
+            Op::Mark => Ok(self.complete(Reply::Done)),
         }
     }
 
     // The first match for the first pattern, if there is one.
-    fn receive(
-        &mut self,
-        me: u16,
-        patterns: &Patterns,
-        channels: &mut Channels,
-    ) -> Result<Progress, NoMemory>
+    fn receive(&mut self, me: u16, patterns: &Patterns, channels: &mut Channels) -> Progress
         requires runs { self.old.end ≡ None }
+        requires few { self.old.ops < 2 ^ 62 }
         requires rank { me < length channels.old }
         ensures functions { runs_of self.new ≡ runs_of self.old }
         ensures ranks { length channels.new ≡ length channels.old }
-        ensures operates { IfOk result (λ did. (ranks : List Rank) → operates lowest (record { ranks = ranks; queues = channels.old }) me (rank_of self.old) (op.Receive patterns.now) (state_of self.old.rank) ≡ job_with ranks me self.new channels.new) }
-        ensures progress { IfOk result (λ did. (ranks : List Rank) → did ≡ progress_if (is_possible (record { ranks = ranks; queues = channels.old }) me (op.Receive patterns.now))) }
+        ensures operates { (ranks : List Rank) → operates lowest (record { ranks = ranks; queues = channels.old }) me (rank_of self.old) (op.Receive patterns.now) (state_of self.old.rank) ≡ job_with ranks me self.new channels.new }
+        ensures progress { (ranks : List Rank) → result ≡ progress_if (is_possible (record { ranks = ranks; queues = channels.old }) me (op.Receive patterns.now)) }
     {
         let Some(pattern) = patterns.as_slice().first() else {
-            return Ok(Progress::Waits);
+            return Progress::Waits;
         };
         let Some((source, message)) = channels.take(me, pattern) else {
-            return Ok(Progress::Waits);
+            return Progress::Waits;
         };
         self.complete(Reply::Got { source, message })
     }
 
     // An operation is completed by its reply.
-    fn complete(&mut self, reply: Reply) -> Result<Progress, NoMemory>
+    fn complete(&mut self, reply: Reply) -> Progress
+        requires { self.old.ops < 2 ^ 62 }
         ensures functions { runs_of self.new ≡ runs_of self.old }
-        ensures completed { IfOk result (λ did. rank_of self.new ≡ record { standing = standing_of (answered (state_of self.old.rank) reply); output = self.old.output.items; ops = suc self.old.ops }) }
-        ensures stopped { IfOk result (λ did. did ≡ Stopped) }
+        ensures completed { rank_of self.new ≡ record { standing = standing_of (answered (state_of self.old.rank) reply); output = self.old.output.items; ops = suc self.old.ops } }
+        ensures stopped { result ≡ Stopped }
     {
-        if self.ops == u64::MAX {
-            return Err(NoMemory);
-        }
         self.end = self.rank.answer(reply);
         self.ops += 1;
-        Ok(Progress::Stopped)
+        Progress::Stopped
     }
 }
 

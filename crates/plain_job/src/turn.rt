@@ -1,8 +1,10 @@
 //! A turn: up to an operation, an end, or too many statements.
 
 ghost use Rattle.std.specs.Prelude.{◌≡◌, ◌<◌, length, false, IfOk, MatchBool, None, List};
+ghost use Rattle.c_kernel.specs.Regular.{AreRegular};
 ghost use Rattle.plain_job.specs.Job.{Rank, Job};
 ghost use Rattle.plain_job.specs.Members.{rank_of, runs_of, job_with};
+ghost use Rattle.plain_job.specs.Serials.{HasRoom};
 ghost use Rattle.plain_job.specs.Turn.{Steps, turn_limit, can_step, IsTurn};
 
 use crate::member::Member;
@@ -13,6 +15,8 @@ impl Member {
     /// A turn of a rank that hasn't ended, the `me`-th. Says whether it had a step to make.
     pub fn turn(&mut self, me: u16, channels: &mut Channels) -> Result<bool, NoMemory>
         requires runs { self.old.end ≡ None }
+        requires regular { AreRegular (runs_of self.old) }
+        requires room { ∥ HasRoom turn_limit (rank_of self.old) ∥₁ }
         requires rank { me < length channels.old }
         ensures functions { runs_of self.new ≡ runs_of self.old }
         ensures ranks { length channels.new ≡ length channels.old }
@@ -30,6 +34,8 @@ impl Member {
     // The steps of a turn.
     fn steps(&mut self, me: u16, channels: &mut Channels) -> Result<(), NoMemory>
         requires runs { self.old.end ≡ None }
+        requires regular { AreRegular (runs_of self.old) }
+        requires room { ∥ HasRoom turn_limit (rank_of self.old) ∥₁ }
         requires rank { me < length channels.old }
         ensures functions { runs_of self.new ≡ runs_of self.old }
         ensures ranks { length channels.new ≡ length channels.old }
@@ -47,10 +53,13 @@ impl Member {
     // One step of a turn in which so many statements may still begin, or its end. Says whether the turn is over.
     fn part(&mut self, me: u16, channels: &mut Channels, left: &mut u32) -> Result<bool, NoMemory>
         requires runs { self.old.end ≡ None }
+        requires regular { AreRegular (runs_of self.old) }
+        requires room { ∥ HasRoom left.old (rank_of self.old) ∥₁ }
         requires rank { me < length channels.old }
         ensures functions { runs_of self.new ≡ runs_of self.old }
         ensures ranks { length channels.new ≡ length channels.old }
         ensures runs { IfOk result (λ over. over ≡ false → self.new.end ≡ None) }
+        ensures room { IfOk result (λ over. over ≡ false → ∥ HasRoom left.new (rank_of self.new) ∥₁) }
         ensures turn { IfOk result (λ over. (ranks : List Rank) → me < length ranks → MatchBool over
             (Steps (runs_of self.old) me left.old (job_with ranks me self.old channels.old) (job_with ranks me self.new channels.new))
             ((after : Job) → Steps (runs_of self.old) me left.new (job_with ranks me self.new channels.new) after → Steps (runs_of self.old) me left.old (job_with ranks me self.old channels.old) after)) }

@@ -21,15 +21,18 @@ returns-then-count-gt-MOST_EVENTS c =
     let text = c.args.text.now in
     let loop = c.loop-at in
     let none = loop.invariant.bad ∙ none_at_end text loop.at loop.is_fresh c.loop-at-test.false in
-    let all = loop.invariant.entries ∙ all_at_end text loop.at loop.is_fresh loop.schedule c.loop-at-test.false in
-    let read = many_read text loop.schedule loop.count none all loop.invariant.total c.if-count-gt-MOST_EVENTS.true in
+    let all = loop.invariant.entries ∙ all_at_end text loop.at loop.is_fresh loop.entries.items c.loop-at-test.false in
+    let read = many_read text loop.entries.items loop.count none all loop.invariant.total c.if-count-gt-MOST_EVENTS.true in
     record { right = right text (TooMany loop.count) read; exact = λ a h. only text (TooMany loop.count) a read h }
+
+pub new-requires : goal.new-requires
+new-requires c = rw (sym c.loop-at.invariant.total) c.if-count-gt-MOST_EVENTS.false
 
 pub returns : goal.returns
 returns c =
     let text = c.args.text.now in
     let loop = c.loop-at in
     let none = loop.invariant.bad ∙ none_at_end text loop.at loop.is_fresh c.loop-at-test.false in
-    let all = loop.invariant.entries ∙ all_at_end text loop.at loop.is_fresh loop.schedule c.loop-at-test.false in
-    let read = whole_read text loop.schedule loop.count none all loop.invariant.total c.if-count-gt-MOST_EVENTS.false in
-    record { right = right text (Whole loop.schedule) read; exact = λ a h. only text (Whole loop.schedule) a read h }
+    let all = loop.invariant.entries ∙ all_at_end text loop.at loop.is_fresh loop.entries.items c.loop-at-test.false in
+    let read = whole_read text loop.entries.items loop.count none all loop.invariant.total c.if-count-gt-MOST_EVENTS.false in
+    rw c.new.ensures (record { right = right text (Whole loop.entries.items) read; exact = λ a h. only text (Whole loop.entries.items) a read h })

@@ -2,7 +2,14 @@ use Rattle.std.proofs.Common.{◌≡◌, true, false, is_some, sym, ◌∙◌}
 use Rattle.c_meaning.specs.Rank.{state_of}
 use Rattle.plain_job.specs.Turn.{turn_limit}
 use Rattle.plain_job.proofs.LastSteps.{Stepped, waiting_turn, waiting_effect, going_effect}
+use Rattle.plain_job.proofs.Rooms.{room_few, room_serials}
 use Rattle.plain_job.proofs.member.Member.turn.Goals as goal
+
+pub step-requires-clause-few : goal.step-requires-clause-few
+step-requires-clause-few c = room_few turn_limit c.args.self.now c.requires.room
+
+pub step-requires-clause-serials : goal.step-requires-clause-serials
+step-requires-clause-serials c = room_serials turn_limit c.args.self.now c.requires.runs c.requires.room
 
 pub returns-then-waits-clause-turn : goal.returns-then-waits-clause-turn
 returns-then-waits-clause-turn c =
