@@ -26,18 +26,18 @@ use Rattle.c3_top.specs.Answer.{IsBadSchedule, IsDone, IsDue, IsFault, IsLeft, I
 use Rattle.c3_top.proofs.Counts.{one_command}
 use Rattle.c3_top.proofs.Verdicts.{read_once, verdict_once}
 
-pub written_from_due : (words : List (List ℕ)) (input : Option (List ℕ)) (failed : Type 0) (old new : Option (List ℕ)) (status : Status) (text : List ℕ) → IsDue words input failed status text
-    → Appends old new text → Writes (IsDue words input failed) old new status
-written_from_due words input failed old new Done text due out = (text, due, out)
-written_from_due words input failed old new Unfinished text due out = (text, due, out)
-written_from_due words input failed old new Usage text due out = (text, due, out)
-written_from_due words input failed old new (Refused kind at) text due out = (text, due, out)
-written_from_due words input failed old new (BadSchedule at) text due out = (text, due, out)
-written_from_due words input failed old new (TooMany count) text due out = (text, due, out)
-written_from_due words input failed old new InputLimit text due out = (text, due, out)
-written_from_due words input failed old new ReadFault text due out = (text, due, out)
-written_from_due words input failed old new (WriteFault n) text due out = absurd due.2
-written_from_due words input failed old new NoMemory text due out = absurd due.2
+pub written_from_due : (words : List (List ℕ)) (input : Option (List ℕ)) (before now : ℕ) (old new : Option (List ℕ)) (status : Status) (text : List ℕ) → IsDue words input before now status text
+    → Appends old new text → Writes (IsDue words input before now) old new status
+written_from_due words input before now old new Done text due out = (text, due, out)
+written_from_due words input before now old new Unfinished text due out = (text, due, out)
+written_from_due words input before now old new Usage text due out = (text, due, out)
+written_from_due words input before now old new (Refused kind at) text due out = (text, due, out)
+written_from_due words input before now old new (BadSchedule at) text due out = (text, due, out)
+written_from_due words input before now old new (TooMany count) text due out = (text, due, out)
+written_from_due words input before now old new InputLimit text due out = (text, due, out)
+written_from_due words input before now old new ReadFault text due out = (text, due, out)
+written_from_due words input before now old new (WriteFault n) text due out = absurd due.3
+written_from_due words input before now old new NoMemory text due out = absurd due.3
 
 -- ---- what an answer says of a command and an input
 
@@ -192,17 +192,17 @@ is_left Check text i h = h
 of_input : (P : List ℕ → Type 0) (i : List ℕ) → OfInput (Some i) P → P i
 of_input P i h = subst P h.1 h.2
 
-due_says : (words : List (List ℕ)) (failed : Type 0) (i : List ℕ) (status : Status) (text : List ℕ) → IsDue words (Some i) failed status text → Due words i status
-due_says words failed i Done text due = (due.0, due.1, is_done due.0 text i (of_input (IsResult Done due.0 text) i due.2))
-due_says words failed i Unfinished text due = (due.0, due.1, is_left due.0 text i (of_input (IsResult Unfinished due.0 text) i due.2))
-due_says words failed i (Refused kind at) text due = (due.0, due.1, (of_input (IsResult (Refused kind at) due.0 text) i due.2).0)
-due_says words failed i (BadSchedule at) text due = (due.0, due.1, (of_input (IsResult (BadSchedule at) due.0 text) i due.2).0)
-due_says words failed i (TooMany count) text due = (due.0, due.1, (of_input (IsResult (TooMany count) due.0 text) i due.2).0)
-due_says words failed i InputLimit text due = (due.0, due.1, subst (λ b. input_limit < length b) due.2.0.1 due.2.0.2)
-due_says words failed i Usage text due = due.0
-due_says words failed i ReadFault text due = tt
-due_says words failed i (WriteFault out) text due = absurd due.2
-due_says words failed i NoMemory text due = absurd due.2
+due_says : (words : List (List ℕ)) (before now : ℕ) (i : List ℕ) (status : Status) (text : List ℕ) → IsDue words (Some i) before now status text → Due words i status
+due_says words before now i Done text due = (due.0, due.1, is_done due.0 text i (of_input (IsResult Done due.0 text) i due.3))
+due_says words before now i Unfinished text due = (due.0, due.1, is_left due.0 text i (of_input (IsResult Unfinished due.0 text) i due.3))
+due_says words before now i (Refused kind at) text due = (due.0, due.1, (of_input (IsResult (Refused kind at) due.0 text) i due.3).0)
+due_says words before now i (BadSchedule at) text due = (due.0, due.1, (of_input (IsResult (BadSchedule at) due.0 text) i due.3).0)
+due_says words before now i (TooMany count) text due = (due.0, due.1, (of_input (IsResult (TooMany count) due.0 text) i due.3).0)
+due_says words before now i InputLimit text due = (due.0, due.1, subst (λ b. input_limit < length b) due.3.0.1 due.3.0.2)
+due_says words before now i Usage text due = due.0
+due_says words before now i ReadFault text due = tt
+due_says words before now i (WriteFault out) text due = absurd due.3
+due_says words before now i NoMemory text due = absurd due.3
 
 -- ---- when each answer comes
 
@@ -229,11 +229,11 @@ comes words i answer NoMemory due h = absurd due
 abbrev pub IsTold : Status → Type 0
 IsTold answer = (words : List (List ℕ)) (i : List ℕ) → Due words i answer → Asks words i answer
 
-pub exact_from_due : (words : List (List ℕ)) (input : Option (List ℕ)) (failed : Type 0) (answer status : Status) (text : List ℕ) → IsTold answer → IsDue words input failed status text
+pub exact_from_due : (words : List (List ℕ)) (input : Option (List ℕ)) (before now : ℕ) (answer status : Status) (text : List ℕ) → IsTold answer → IsDue words input before now status text
     → IfSome input (λ i. Exactly ((c : Command) × IsCommand words c × Says answer c i) answer status)
-exact_from_due words None failed answer status text is due = tt
-exact_from_due words (Some i) failed answer status text is due =
-    let says = due_says words failed i status text due in
+exact_from_due words None before now answer status text is due = tt
+exact_from_due words (Some i) before now answer status text is due =
+    let says = due_says words before now i status text due in
     record { only = λ e. is words i (subst (Due words i) e says); always = comes words i answer status says }
 
 -- a fault comes in the place of any answer

@@ -25,37 +25,30 @@ split_next text at fresh h e =
     ap (λ l. with_front (take at text) (split_from fresh l)) more ∙ passed (take at text) b bs fresh (ap (λ l. fresh && is_schedule_line (line_of l)) (sym more) ∙ e)
     ∙ ap (λ l. with_front l (split_from (is_feed b) bs)) (sym (take_more text at 0 h))
 
--- ---- the parts are no longer than the input
+-- ---- the schedule is no longer than the input
 
 abbrev Fits : ℕ → Option Parts → Type 0
 Fits n None = Unit {0}
-Fits n (Some p) = (length p.text ≤ n) × (length p.schedule ≤ n)
+Fits n (Some p) = length p.schedule ≤ n
 
 fits_more : (n b : ℕ) (parts : Option Parts) → Fits n parts → Fits (suc n) (option_map {T = Parts} (λ p. record p { text = b ∷ p.text }) parts)
 fits_more n b None h = tt
-fits_more n b (Some p) h = let text = h.0 in let schedule = h.1 in (omega (arith, text), omega (arith, schedule))
+fits_more n b (Some p) h = omega (arith, h)
 
 split_fits : (fresh : Bool) (text : List ℕ) → Fits (length text) (split_from fresh text)
 split_fits fresh [] = tt
 split_fits fresh (b ∷ bs) = by_line (fresh && is_schedule_line (line_of (b ∷ bs))) (split_from (is_feed b) bs) (split_fits (is_feed b) bs)
   where
     by_line : (here : Bool) (parts : Option Parts) → Fits (length bs) parts → Fits (suc (length bs)) (cond here (Some (record { text = []; schedule = after_line (b ∷ bs) })) (option_map {T = Parts} (λ p. record p { text = b ∷ p.text }) parts))
-    by_line true parts h = let e = length-drop (suc (length (line_of (b ∷ bs)))) (b ∷ bs) in (omega arith, omega (arith, e))
+    by_line true parts h = let e = length-drop (suc (length (line_of (b ∷ bs)))) (b ∷ bs) in omega (arith, e)
     by_line false parts h = fits_more (length bs) b parts h
 
 abbrev chosen : List ℕ → Option Parts → Parts
 chosen input parts = elim parts [ None ↦ record { text = input; schedule = codes "r*3076" } | Some p ↦ p ]
-
-pub text_fits : (input : List ℕ) → length input ≤ 1048576 → length (parts_of input).text ≤ 1048576
-text_fits input h = by_parts (split_from true input) (split_fits true input)
-  where
-    by_parts : (parts : Option Parts) → Fits (length input) parts → length (chosen input parts).text ≤ 1048576
-    by_parts None k = h
-    by_parts (Some p) k = let e = k.0 in omega (arith, e, h)
 
 pub schedule_fits : (input : List ℕ) → length input ≤ 1048576 → length (parts_of input).schedule ≤ 1048576
 schedule_fits input h = by_parts (split_from true input) (split_fits true input)
   where
     by_parts : (parts : Option Parts) → Fits (length input) parts → length (chosen input parts).schedule ≤ 1048576
     by_parts None k = omega arith
-    by_parts (Some p) k = let e = k.1 in omega (arith, e, h)
+    by_parts (Some p) k = omega (arith, k, h)

@@ -4,6 +4,7 @@ use Rattle.std.specs.Fmt.{decimal}
 use Rattle.std.specs.Io.KnownBytes.{Appends}
 use Rattle.c_tree.specs.declared.kind.Kind.{Kind}
 use Rattle.c_kernel.specs.declared.program.Program.{Program}
+use Rattle.c3_io.specs.Faults.{Rose}
 use Rattle.c3_io.specs.Streams.{AreAll, HasMoreThan}
 use Rattle.job_schedule.specs.declared.schedule.Entry.{Entry}
 use Rattle.job_schedule.specs.Events.{events_of}
@@ -75,21 +76,26 @@ IsResult (TooMany count) c text bytes = IsTooMany count bytes × (text ≡ codes
 IsResult (Refused kind at) c text bytes = IsRefused kind at bytes × (text ≡ refusal kind at)
 IsResult _ c text bytes = ⊥
 
--- the answer to a command, from a source that has failed in this call or not
-abbrev pub IsAnswer : Status → Command → Option (List ℕ) → Type 0 → List ℕ → Type 0
-IsAnswer Done c input failed text = OfInput input (IsResult Done c text)
-IsAnswer Unfinished c input failed text = OfInput input (IsResult Unfinished c text)
-IsAnswer (BadSchedule at) c input failed text = OfInput input (IsResult (BadSchedule at) c text)
-IsAnswer (TooMany count) c input failed text = OfInput input (IsResult (TooMany count) c text)
-IsAnswer (Refused kind at) c input failed text = OfInput input (IsResult (Refused kind at) c text)
-IsAnswer InputLimit c input failed text = HasMoreThan input_limit input × (text ≡ codes "input too long\n")
-IsAnswer ReadFault c input failed text = failed × (text ≡ codes "read fault\n")
-IsAnswer _ c input failed text = ⊥
+-- how often the source had failed before the call and after it: a fault of reading has its cause there, and none is passed over
+abbrev pub Counts : Status → ℕ → ℕ → Type 0
+Counts ReadFault before now = Rose before now
+Counts _ before now = now ≡ before
 
--- The answer and its text are due for these words, this input and a source that has failed in this call or not.
-abbrev pub IsDue : List (List ℕ) → Option (List ℕ) → Type 0 → Status → List ℕ → Type 0
-IsDue words input failed Usage text = IsNoCommand words × (text ≡ codes "usage\n")
-IsDue words input failed status text = (c : Command) × IsCommand words c × IsAnswer status c input failed text
+-- the answer to a command
+abbrev pub IsAnswer : Status → Command → Option (List ℕ) → List ℕ → Type 0
+IsAnswer Done c input text = OfInput input (IsResult Done c text)
+IsAnswer Unfinished c input text = OfInput input (IsResult Unfinished c text)
+IsAnswer (BadSchedule at) c input text = OfInput input (IsResult (BadSchedule at) c text)
+IsAnswer (TooMany count) c input text = OfInput input (IsResult (TooMany count) c text)
+IsAnswer (Refused kind at) c input text = OfInput input (IsResult (Refused kind at) c text)
+IsAnswer InputLimit c input text = HasMoreThan input_limit input × (text ≡ codes "input too long\n")
+IsAnswer ReadFault c input text = text ≡ codes "read fault\n"
+IsAnswer _ c input text = ⊥
+
+-- The answer and its text are due for these words, this input and a source that has failed so often before the call and after it.
+abbrev pub IsDue : List (List ℕ) → Option (List ℕ) → ℕ → ℕ → Status → List ℕ → Type 0
+IsDue words input before now Usage text = IsNoCommand words × (now ≡ before) × (text ≡ codes "usage\n")
+IsDue words input before now status text = (c : Command) × IsCommand words c × Counts status before now × IsAnswer status c input text
 
 -- the run ends, or the text is accepted
 abbrev pub IsDone : Command → List ℕ → Type 0

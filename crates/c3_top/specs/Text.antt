@@ -1,11 +1,7 @@
 -- What a program text is.
-use Rattle.std.specs.Prelude.{ℕ, Bool, true, false, ◌||◌, List, [], ◌∷◌, length, Option, Some, None, Result, Ok, Err, ◌⊎◌}
+use Rattle.std.specs.Prelude.{ℕ, List, Option, Some, None, Result, Ok, Err, ◌⊎◌}
 use Rattle.c_tree.specs.declared.kind.Kind.{Kind}
-use Rattle.c_tree.specs.declared.token.Class.{Class}
-use Rattle.c_tree.specs.declared.token.Class.TheVariants as class
-use Rattle.c_tree.specs.declared.token.Token.{Token}
 use Rattle.c_tree.specs.declared.tree.Tree.{Tree}
-use Rattle.c_tree.specs.Tokens.{Tokens}
 use Rattle.c_kernel.specs.declared.program.Program.{Program}
 use Rattle.c_grammar.specs.Text.{HasTree, Parses}
 use Rattle.c_grammar.specs.Text as parsed
@@ -14,26 +10,15 @@ use Rattle.c_check.specs.Check.{Verdict, Accepted, Refused}
 use Rattle.c3_top.specs.declared.program.NoProgram.{NoProgram}
 use Rattle.c3_top.specs.declared.program.NoProgram.TheVariants as no_program
 
--- the word MPI_ANY_SOURCE
-abbrev pub is_any_source : Class → Bool
-is_any_source class.AnySource = true
-is_any_source _ = false
-
-abbrev pub names_any : List Token → Bool
-names_any [] = false
-names_any (t ∷ ts) = is_any_source t.class || names_any ts
-
 -- the text is a program, with this typed form
 pub record IsProgram (text : List ℕ) (p : Program) : Type 0 where
   pub tree : Tree
   pub has : HasTree text tree
-  pub tokens : List Token
-  pub read : Tokens text tokens
-  pub accepted : Accepts tree (length text) (names_any tokens) p
+  pub accepted : Accepts tree p
 
 -- its tree breaks a rule
 abbrev pub BreaksRule : List ℕ → Kind → ℕ → Type 0
-BreaksRule text what at = (tree : Tree) × HasTree text tree × Refuses tree (length text) (record { kind = what; at = at })
+BreaksRule text what at = (tree : Tree) × HasTree text tree × Refuses tree (record { kind = what; at = at })
 
 -- it is no program: it has no tree, or its tree breaks a rule
 abbrev pub IsNoProgram : List ℕ → Kind → ℕ → Type 0

@@ -1,13 +1,14 @@
-ghost use Rattle.std.specs.Prelude.{◌≡◌, ◌≤◌, ◌<◌, ◌++◌, ℕ, List, IfOk, IfSome, codes, length, map, string_bytes};
+ghost use Rattle.std.specs.Prelude.{◌≡◌, ◌⊎◌, ◌≤◌, ◌<◌, ◌++◌, ℕ, List, IfOk, IfSome, codes, length, map, string_bytes};
 ghost use Rattle.std.specs.Fmt.{decimal};
 ghost use Rattle.c_tree.specs.declared.kind.Kind.{Kind as Cause};
+ghost use Rattle.c_kernel.specs.Regular.{IsRegular};
 ghost use Rattle.c3_io.specs.Faults.{Rose};
-ghost use Rattle.c3_top.specs.Command.{IsCommand, IsNoCommand};
+ghost use Rattle.c3_top.specs.Command.{HasFewRanks, IsCommand, IsNoCommand};
 ghost use Rattle.c3_top.specs.declared.command.Command.{Command as Asked};
 ghost use Rattle.c3_top.specs.declared.command.Command.TheVariants.{Plain};
 ghost use Rattle.c3_top.specs.Text.{IsProgram};
 ghost use Rattle.c3_top.specs.Refusal as refusals;
-ghost use Rattle.c3_top.specs.Answer.{HasParts, IsAnswer, IsBadSchedule, IsDone, IsDue, IsLeft, IsRefused, IsResult, IsTooMany, IsWriteFault, Writes, Exactly, input_limit};
+ghost use Rattle.c3_top.specs.Answer.{Counts, HasParts, IsAnswer, IsBadSchedule, IsDone, IsDue, IsFault, IsLeft, IsRefused, IsResult, IsTooMany, IsWriteFault, Writes, Exactly, input_limit};
 
 use crate::Status;
 use crate::command::{Command, asked};
@@ -19,7 +20,7 @@ use c_kernel::program::Program;
 use c_tree::Kind;
 use c3_base::NoMemory;
 use c3_io::{ReadAllFault, Sink, Source, read_all, write_all_to};
-use job_schedule::{Entry, ScheduleFault, read_schedule};
+use job_schedule::{Schedule, ScheduleFault, read_schedule};
 use std::alloc::Global;
 
 /// The greatest length of the input, in bytes.
@@ -72,7 +73,9 @@ fn too_many(alloc: Global, count: u64) -> Result<Answer, NoMemory>
 }
 
 /// The answer to `plain N` for a program under a schedule.
-fn ran(alloc: Global, ranks: u16, program: Program, schedule: &[Entry]) -> Result<Answer, NoMemory>
+fn ran(alloc: Global, ranks: u16, program: Program, schedule: &Schedule) -> Result<Answer, NoMemory>
+    requires few { ranks ≤ 16 }
+    requires regular { IsRegular program }
     ensures { IfOk result (λ answer. (text bytes : List ℕ) → HasParts text schedule.now bytes → IsProgram text program → IsResult answer.status (Plain ranks) answer.text.items bytes) }
 {
     let job = run(alloc, ranks, program, schedule)?;
@@ -93,9 +96,9 @@ fn text_result(
     alloc: Global,
     command: Command,
     text: &[u8],
-    schedule: &[Entry],
+    schedule: &Schedule,
 ) -> Result<Answer, NoMemory>
-    requires { length text.now ≤ input_limit }
+    requires { HasFewRanks command }
     ensures { IfOk result (λ answer. (bytes : List ℕ) → HasParts text.now schedule.now bytes → IsResult answer.status command answer.text.items bytes) }
 {
     match program(alloc, text) {
@@ -110,12 +113,13 @@ fn text_result(
 
 /// The answer to a command on a whole input. The schedule comes before the text.
 fn result_of(alloc: Global, command: Command, input: &[u8]) -> Result<Answer, NoMemory>
-    requires { length input.now ≤ input_limit }
+    requires few { HasFewRanks command }
+    requires short { length input.now ≤ input_limit }
     ensures { IfOk result (λ answer. IsResult answer.status command answer.text.items input.now) }
 {
     let parts = split(input);
     match read_schedule(alloc, parts.schedule) {
-        Ok(schedule) => text_result(alloc, command, parts.text, schedule.entries()),
+        Ok(schedule) => text_result(alloc, command, parts.text, &schedule),
         Err(ScheduleFault::BadEvent { at }) => bad_schedule(alloc, at),
         Err(ScheduleFault::TooMany { count }) => too_many(alloc, count),
         Err(ScheduleFault::NoMemory) => Err(NoMemory),
@@ -124,8 +128,10 @@ fn result_of(alloc: Global, command: Command, input: &[u8]) -> Result<Answer, No
 
 /// The answer to a command.
 fn answer_to<S: Source>(alloc: Global, command: Command, source: &mut S) -> Result<Answer, NoMemory>
+    requires { HasFewRanks command }
     ensures later { S.faults source.old ≤ S.faults source.new }
-    ensures answer { IfOk result (λ answer. IsAnswer answer.status command (S.left source.old) (Rose (S.faults source.old) (S.faults source.new)) answer.text.items) }
+    ensures answer { IfOk result (λ answer. IsAnswer answer.status command (S.left source.old) answer.text.items) }
+    ensures counts { IfOk result (λ answer. Counts answer.status (S.faults source.old) (S.faults source.new)) }
 {
     match read_all(alloc, source, INPUT_LIMIT) {
         Ok(input) => result_of(alloc, command, &input),
@@ -141,7 +147,7 @@ fn due_answer<S: Source>(
     words: &[String],
     source: &mut S,
 ) -> Result<Answer, NoMemory>
-    ensures due { IfOk result (λ answer. IsDue (map string_bytes words.now) (S.left source.old) (Rose (S.faults source.old) (S.faults source.new)) answer.status answer.text.items) }
+    ensures due { IfOk result (λ answer. IsDue (map string_bytes words.now) (S.left source.old) (S.faults source.old) (S.faults source.new) answer.status answer.text.items) }
     ensures untouched { IsNoCommand (map string_bytes words.now) → source.new ≡ source.old }
     ensures later { S.faults source.old ≤ S.faults source.new }
 {
@@ -160,7 +166,7 @@ pub fn c3_top<S: Source, K: Sink>(
 ) -> Status
     // The text that is due with the status goes out.
     ensures written { Writes
-        (IsDue (map string_bytes words.now) (S.left source.old) (Rose (S.faults source.old) (S.faults source.new)))
+        (IsDue (map string_bytes words.now) (S.left source.old) (S.faults source.old) (S.faults source.new))
         (K.out sink.old) (K.out sink.new) result }
 
     // Each answer comes exactly where it should, but for a fault in its place.
@@ -183,6 +189,10 @@ pub fn c3_top<S: Source, K: Sink>(
     ensures write_fault { IsWriteFault result → Rose (K.faults sink.old) (K.faults sink.new) }
     ensures source_later { S.faults source.old ≤ S.faults source.new }
     ensures sink_later { K.faults sink.old ≤ K.faults sink.new }
+
+    // No fault is passed over.
+    ensures source_kept { IsFault result ⊎ (S.faults source.new ≡ S.faults source.old) }
+    ensures sink_kept { IsWriteFault result ⊎ (K.faults sink.new ≡ K.faults sink.old) }
 
     // No command leaves the source as it is.
     ensures untouched { IsNoCommand (map string_bytes words.now) → source.new ≡ source.old }
