@@ -8,10 +8,11 @@ newer() {
 }
 if [ ! -x "$program" ] || [ -n "$(newer)" ]; then
     rm -f "$program"
-    (cd "$top/crates/c3" && rt run) </dev/null >"$log" 2>&1
+    echo "c3: building; each crate is proved first, which may take an hour the first time" >&2
+    (cd "$top/crates/c3" && rt run) </dev/null 2>&1 | tee "$log" | sed -un 's/^crate \([a-z0-9_]*\):.*/c3: proved \1/p' >&2
     if [ ! -x "$program" ]; then
         cat "$log" >&2
-        exit 1
+        exit 125
     fi
 fi
 exec "$program" "$@"
