@@ -90,7 +90,7 @@ members_of_members = simp judging refl
 -- ---- calls of MPI
 
 -- int main(int a,char **b){int r;MPI_Init(&a,&b);MPI_Comm_rank(MPI_COMM_WORLD,&r);MPI_Comm_size(MPI_COMM_WORLD,&r);MPI_Finalize();}
-start_and_end : whole ((item.Function (heading (specifier.Plain 0 plain.Int) 0 (named 4 (codes "main")) ((parameter (specifier.Plain 9 plain.Int) 0 (Some (named 13 (codes "a"))) None) ∷ (parameter (specifier.Plain 15 plain.Char) 2 (Some (named 22 (codes "b"))) None) ∷ [])) (block 24 ((block_item.Declaration (declaration (specifier.Plain 25 plain.Int) ((variable 0 (named 29 (codes "r")) [] None) ∷ []))) ∷ (block_item.Statement (called (mpi.Init 31 (Some (named 41 (codes "a"), named 44 (codes "b")))))) ∷ (block_item.Statement (called (mpi.CommRank 47 (prefix 76 operator.And (name (named 77 (codes "r"))))))) ∷ (block_item.Statement (called (mpi.CommSize 80 (prefix 109 operator.And (name (named 110 (codes "r"))))))) ∷ (block_item.Statement (called (mpi.Finalize 113))) ∷ []))) ∷ []) 129 ≡ accepted (program_of [] (single int ∷ []) (zero 0 ∷ mpi_call function.Init [] ∷ mpi_call function.CommRank (term.Address (within 0 []) ∷ []) ∷ mpi_call function.CommSize (term.Address (within 0 []) ∷ []) ∷ mpi_call function.Finalize [] ∷ []))
+start_and_end : whole ((item.Function (heading (specifier.Plain 0 plain.Int) 0 (named 4 (codes "main")) ((parameter (specifier.Plain 9 plain.Int) 0 (Some (named 13 (codes "a"))) None) ∷ (parameter (specifier.Plain 15 plain.Char) 2 (Some (named 22 (codes "b"))) None) ∷ [])) (block 24 ((block_item.Declaration (declaration (specifier.Plain 25 plain.Int) ((variable 0 (named 29 (codes "r")) [] None) ∷ []))) ∷ (block_item.Statement (called (mpi.Init 31 (Some (named 41 (codes "a"), named 44 (codes "b")))))) ∷ (block_item.Statement (called (mpi.CommRank 47 (prefix 76 operator.And (name (named 77 (codes "r"))))))) ∷ (block_item.Statement (called (mpi.CommSize 80 (prefix 109 operator.And (name (named 110 (codes "r"))))))) ∷ (block_item.Statement (called (mpi.Finalize 113))) ∷ []))) ∷ []) 129 ≡ accepted (program_of [] (single int ∷ []) (zero 0 ∷ typed.Mpi (record { function = function.Init; names = codes "a" ∷ codes "b" ∷ []; arguments = [] }) ∷ mpi_call function.CommRank (term.Address (within 0 []) ∷ []) ∷ mpi_call function.CommSize (term.Address (within 0 []) ∷ []) ∷ mpi_call function.Finalize [] ∷ []))
 unfolding EachRule
 start_and_end = simp judging refl
 

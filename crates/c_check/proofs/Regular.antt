@@ -419,7 +419,7 @@ module _ (functions : Bytes → Option Signature) (structs : List Struct) where
   fine_called : (n : ℕ) (s : Scope) (c : MpiCall) (f : Option MpiFunction) → IfSome (walk.mpi_function functions structs s c f).found (Fine n)
   unfolding mpi.called
   fine_called n s c None = tt
-  fine_called n s c (Some f) = fine_given (Fine n) _ (mpi.called (mpi.word_rules s c) f) (λ vs. fine_sound (Fine n) _ _ (fine_mpi n _))
+  fine_called n s c (Some f) = fine_given (Fine n) _ (mpi.called (mpi.word_rules s c) (mpi.names_of c) f) (λ vs. fine_sound (Fine n) _ _ (fine_mpi n _))
 
   -- ---- statements
 

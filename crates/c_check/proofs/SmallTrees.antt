@@ -254,7 +254,7 @@ abbrev pub zero : ℕ → Form
 zero k = typed.Actions (action.Zero k ∷ [])
 
 abbrev pub mpi_call : MpiFunction → List Term → Form
-mpi_call f es = typed.Mpi (record { function = f; arguments = es })
+mpi_call f es = typed.Mpi (record { function = f; names = []; arguments = es })
 
 -- a main with a char, an int and a long, its first three variables
 abbrev pub three : List Form → Program

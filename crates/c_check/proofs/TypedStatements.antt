@@ -131,7 +131,7 @@ module _ (functions : Bytes → Option Signature) (structs : List Struct) (sound
   told_mpi s c None = told_refused _
   told_mpi s c (Some f) =
       let es = mpi.arguments_of c in
-      told_part (walk.values functions structs s es) (mpi.called (mpi.word_rules s c) f) (told_together (judged_all functions structs s es) (told_expressions functions structs s es)) (λ vs. told_by _ _)
+      told_part (walk.values functions structs s es) (mpi.called (mpi.word_rules s c) (mpi.names_of c) f) (told_together (judged_all functions structs s es) (told_expressions functions structs s es)) (λ vs. told_by _ _)
 
   -- ---- declarations
 

@@ -20,7 +20,7 @@ use Rattle.c_rules.specs.declared.found.Found.{Found}
 use Rattle.c_rules.specs.declared.scope.Entity.{Entity}
 use Rattle.c_rules.specs.declared.scope.Entity.TheVariants.{Variable, Parameter}
 use Rattle.c_rules.specs.Judged.{Judged, breaks, by, unless_broken}
-use Rattle.c_rules.specs.Scope.{Scope, visible}
+use Rattle.c_rules.specs.Scope.{Bytes, Scope, visible}
 use Rattle.c_rules.specs.Roles.{roles_of, roles_rules, roles_values}
 
 -- a datatype (3.2.2)
@@ -53,6 +53,15 @@ arguments_of (mpi.Recv at b from tag st) = b.start ∷ b.count ∷ from ∷ tag 
 arguments_of (mpi.GetCount at st kind p) = given_status st ++ p ∷ []
 arguments_of _ = []
 
+-- the names whose addresses MPI_Init gets
+abbrev pub given_names : Option (Name × Name) → List Bytes
+given_names None = []
+given_names (Some names) = names.0.bytes ∷ names.1.bytes ∷ []
+
+abbrev pub names_of : MpiCall → List Bytes
+names_of (mpi.Init at names) = given_names names
+names_of _ = []
+
 -- ---- the rules of words and names: MPI_Init's are main's two parameters in order, and MPI_Get_count has a status
 
 abbrev pub is_parameter : ℕ → Option Entity → Bool
@@ -81,5 +90,5 @@ word_rules s _ = []
 abbrev pub call_rules : List Fault → MpiFunction → List Found → List Fault
 call_rules words f vs = words ++ unless_broken words (roles_rules (roles_of f) vs)
 
-unfoldable pub called : List Fault → MpiFunction → List Found → Judged Typed
-called words f vs = by (call_rules words f vs) (typed.Mpi (record { function = f; arguments = roles_values (roles_of f) vs }))
+unfoldable pub called : List Fault → List Bytes → MpiFunction → List Found → Judged Typed
+called words names f vs = by (call_rules words f vs) (typed.Mpi (record { function = f; names = names; arguments = roles_values (roles_of f) vs }))

@@ -323,7 +323,7 @@ module _ (functions : Bytes → Option Signature) (structs : List Struct) where
 
   abbrev pub mpi_function : Scope → MpiCall → Option MpiFunction → Judged Typed
   mpi_function s c None = refused NotYet 0
-  mpi_function s c (Some f) = of_part (values s (mpi.arguments_of c)) (mpi.called (mpi.word_rules s c) f)
+  mpi_function s c (Some f) = of_part (values s (mpi.arguments_of c)) (mpi.called (mpi.word_rules s c) (mpi.names_of c) f)
 
   abbrev pub mpi_call : Scope → MpiCall → Judged Typed
   mpi_call s c = mpi_function s c (mpi.function_of c)

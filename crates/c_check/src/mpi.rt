@@ -127,6 +127,22 @@ fn arguments_of(alloc: Global, c: &MpiCall) -> Result<Vec<&Expr>, AllocError>
     }
 }
 
+// The names whose addresses `MPI_Init` gets.
+fn names_of(alloc: Global, c: &MpiCall) -> Result<Items<Items<u8>>, AllocError>
+    ensures { IfOk result (λ names. names ≡ mpi.names_of c.now) }
+{
+    let mut names = Items::new(alloc);
+    if let MpiCall::Init {
+        arguments: Some((count, vector)),
+        ..
+    } = c
+    {
+        names.push(Items::from_slice(alloc, count.bytes.as_slice())?)?;
+        names.push(Items::from_slice(alloc, vector.bytes.as_slice())?)?;
+    }
+    Ok(names)
+}
+
 // What the arguments are found to be.
 #[tactic(auto, using(std::proofs::Common::append_assoc))]
 fn values(
@@ -159,8 +175,8 @@ fn call_of(
     function: MpiFunction,
     vs: Items<Found>,
 ) -> Result<Option<Typed>, AllocError>
-    ensures found { IfOk result (λ found. found ≡ (mpi.called (mpi.word_rules (scope_of scope.now) c.now) function vs).found) }
-    ensures faults { OnOk result (faults.new.items ≡ faults.old.items ++ (mpi.called (mpi.word_rules (scope_of scope.now) c.now) function vs).faults) }
+    ensures found { IfOk result (λ found. found ≡ (mpi.called (mpi.word_rules (scope_of scope.now) c.now) (mpi.names_of c.now) function vs).found) }
+    ensures faults { OnOk result (faults.new.items ≡ faults.old.items ++ (mpi.called (mpi.word_rules (scope_of scope.now) c.now) (mpi.names_of c.now) function vs).faults) }
 {
     let roles = roles_of(alloc, function)?;
     let before = faults.len();
@@ -168,10 +184,10 @@ fn call_of(
     if faults.len() > before {
         return Ok(None);
     }
-    let arguments = roles_values(alloc, roles.as_slice(), vs)?;
     Ok(Some(Typed::Mpi(TypedCall {
         function,
-        arguments,
+        names: names_of(alloc, c)?,
+        arguments: roles_values(alloc, roles.as_slice(), vs)?,
     })))
 }
 

@@ -10,14 +10,14 @@ use sqlite_items::Items;
 use std::alloc::{AllocError, Global};
 
 /// A number below 2^63, and whether its type is long.
-#[derive(Clone, Copy, Debug, PartialEq, Eq)]
+#[derive(Clone, Copy, PartialEq, Eq)]
 pub struct Integer {
     pub value: u64,
     pub long: bool,
 }
 
 /// A constant (C99 6.4.4), `NULL`, or a constant of MPI.
-#[derive(Clone, Copy, Debug, PartialEq, Eq)]
+#[derive(Clone, Copy, PartialEq, Eq)]
 pub enum Literal {
     Integer(Integer),
     Character(u64),

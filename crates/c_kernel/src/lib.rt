@@ -5,5 +5,6 @@ pub mod program;
 mod types;
 
 pub use types::{
-    Base, CType, Extent, IntegerType, Member, ObjectType, Struct, element_type, extent_of,
+    Base, CType, Extent, IntegerType, Member, ObjectType, Struct, copies_of_structs,
+    copies_of_types, element_type, extent_of,
 };

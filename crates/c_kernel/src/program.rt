@@ -76,11 +76,13 @@ pub enum Stmt {
 #[derive(Drop)]
 pub struct MpiCall {
     pub function: MpiFunction,
+    /// Those of `main`'s parameters, where `MPI_Init` gets their addresses.
+    pub names: Items<Items<u8>>,
     pub arguments: Items<Expr>,
 }
 
 /// A function of MPI with the words among its arguments, but for `MPI_COMM_WORLD` and `MPI_STATUS_IGNORE`. In brackets stands what the other arguments are.
-#[derive(Clone, Copy, PartialEq, Eq, Debug)]
+#[derive(Clone, Copy, PartialEq, Eq)]
 pub enum MpiFunction {
     /// `MPI_Init` `[]`.
     Init,
@@ -135,7 +137,7 @@ pub struct Target {
 }
 
 /// A piece of a format, which gives a byte or prints the next argument (C99 7.19.6.1).
-#[derive(Clone, Copy, PartialEq, Eq, Debug)]
+#[derive(Clone, Copy, PartialEq, Eq)]
 pub enum Piece {
     /// `%%` is the byte `%`.
     Byte(u8),
@@ -147,7 +149,7 @@ pub enum Piece {
 }
 
 /// What one cell is read as.
-#[derive(Clone, Copy, PartialEq, Eq, Debug)]
+#[derive(Clone, Copy, PartialEq, Eq)]
 pub enum Scalar {
     Number(IntegerType),
     Pointer,
@@ -241,7 +243,7 @@ pub struct Link<E> {
 }
 
 /// An operator of C99 6.5.3.3, but for `!`.
-#[derive(Clone, Copy, PartialEq, Eq, Debug)]
+#[derive(Clone, Copy, PartialEq, Eq)]
 pub enum UnaryOperator {
     Plus,
     Minus,
@@ -249,7 +251,7 @@ pub enum UnaryOperator {
 }
 
 /// An operator of two operands, with the type at which it computes.
-#[derive(Clone, Copy, PartialEq, Eq, Debug)]
+#[derive(Clone, Copy, PartialEq, Eq)]
 pub enum BinaryOperator {
     /// Of two numbers of the type, which the result has too.
     Arithmetic {
@@ -281,7 +283,7 @@ pub enum BinaryOperator {
 }
 
 /// An operator of C99 6.5.5, 6.5.6 and 6.5.10 to 6.5.12.
-#[derive(Clone, Copy, PartialEq, Eq, Debug)]
+#[derive(Clone, Copy, PartialEq, Eq)]
 pub enum Arithmetic {
     Multiply,
     Divide,
@@ -294,21 +296,21 @@ pub enum Arithmetic {
 }
 
 /// The way that a shift goes.
-#[derive(Clone, Copy, PartialEq, Eq, Debug)]
+#[derive(Clone, Copy, PartialEq, Eq)]
 pub enum Direction {
     Left,
     Right,
 }
 
 /// The way that a pointer goes.
-#[derive(Clone, Copy, PartialEq, Eq, Debug)]
+#[derive(Clone, Copy, PartialEq, Eq)]
 pub enum Way {
     Forward,
     Back,
 }
 
 /// A relational or equality operator.
-#[derive(Clone, Copy, PartialEq, Eq, Debug)]
+#[derive(Clone, Copy, PartialEq, Eq)]
 pub enum Comparison {
     Less,
     Greater,

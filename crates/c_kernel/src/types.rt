@@ -4,18 +4,19 @@ ghost use Rattle.std.specs.Prelude.{◌≡◌};
 ghost use Rattle.c_kernel.specs.Extent as extents;
 ghost use Rattle.c_kernel.specs.Elements as elements;
 
+pub use copy::{copies_of_structs, copies_of_types};
 use mpi_words::Datatype;
 use sqlite_items::Items;
 
 /// A type that is no array (C99 6.2.5): of what a function gives, a value, or an array's innermost elements. It is a pointer behind so many stars to the base, or without stars the base itself.
-#[derive(Clone, Copy, PartialEq, Eq, Debug)]
+#[derive(Clone, Copy, PartialEq, Eq)]
 pub struct CType {
     pub base: Base,
     pub stars: usize,
 }
 
 /// A type that is neither a pointer nor an array.
-#[derive(Clone, Copy, PartialEq, Eq, Debug)]
+#[derive(Clone, Copy, PartialEq, Eq)]
 pub enum Base {
     Integer(IntegerType),
     /// The result of a function that gives none. `NULL` is a pointer to it, and no other value is.
@@ -25,7 +26,7 @@ pub enum Base {
 }
 
 /// A signed integer type: char has 8 bits, int 32, long 64.
-#[derive(Clone, Copy, PartialEq, Eq, Debug)]
+#[derive(Clone, Copy, PartialEq, Eq)]
 pub enum IntegerType {
     Char,
     Int,
@@ -42,7 +43,7 @@ pub struct ObjectType {
 }
 
 /// The room that an object takes: in cells, and what `sizeof` gives for its type (C99 6.5.3.4).
-#[derive(Clone, Copy, PartialEq, Eq, Debug)]
+#[derive(Clone, Copy, PartialEq, Eq)]
 pub struct Extent {
     pub cells: u32,
     pub size: u32,

@@ -6,7 +6,7 @@ use crate::level::Level;
 use crate::value::Variables;
 
 /// A call that is under way, with its levels, the outermost first.
-#[derive(Debug, Drop)]
+#[derive(Drop)]
 pub struct Frame {
     pub function: usize,
     pub variables: Variables,

@@ -9,7 +9,7 @@ ghost use Rattle.c_meaning.specs.Level as spec;
 use c_kernel::program::{Action, Function, Stmt, Target};
 
 /// A block of statements that a function stands in.
-#[derive(Clone, Copy, Debug)]
+#[derive(Clone, Copy)]
 pub struct Level {
     /// How many statements of the block have begun.
     pub next: usize,
@@ -20,7 +20,7 @@ pub struct Level {
 }
 
 /// What comes next of a statement.
-#[derive(Clone, Copy, Debug)]
+#[derive(Clone, Copy)]
 pub enum Stage {
     /// The block, a function's body, hasn't begun.
     Entering,
@@ -39,7 +39,7 @@ pub enum Stage {
 }
 
 /// Which actions: a statement's, or those of the first or the last clause of a `for`.
-#[derive(Clone, Copy, Debug)]
+#[derive(Clone, Copy)]
 pub enum Part {
     Own,
     Start,

@@ -22,7 +22,7 @@ use mpi_words::{Datatype, List, Message, Op, Pattern, Patterns};
 use std::alloc::Global;
 
 /// What a call comes to, beside what it writes.
-#[derive(Debug, Drop)]
+#[derive(Drop)]
 pub struct Effect {
     pub phase: Phase,
     /// An operation that is asked for.
@@ -30,7 +30,7 @@ pub struct Effect {
 }
 
 // What a send and a receive are given: the buffer, how many elements, the other rank and the tag.
-#[derive(Clone, Copy, Debug)]
+#[derive(Clone, Copy)]
 struct Transfer {
     kind: Datatype,
     buffer: Cell,

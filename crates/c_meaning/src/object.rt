@@ -12,7 +12,7 @@ use crate::spot::{NULL, Spot};
 use c3_base::Cell;
 
 /// An object.
-#[derive(Debug, Drop)]
+#[derive(Drop)]
 pub struct Object {
     pub serial: u64,
     pub cells: Vec<Cell>,

@@ -9,7 +9,7 @@ use crate::spot::Spot;
 use mpi_words::{Datatype, Op};
 
 /// An operation, and where a message goes that comes back.
-#[derive(Debug, Drop)]
+#[derive(Drop)]
 pub struct Request {
     pub operation: Op,
     pub receipt: Option<Receipt>,
@@ -28,7 +28,7 @@ impl Request {
 }
 
 /// Where a receive puts its message (MPI 3.1 3.2.4).
-#[derive(Clone, Copy, Debug)]
+#[derive(Clone, Copy)]
 pub struct Receipt {
     pub buffer: Spot,
     /// How many elements the buffer has room for, at most 4,096.

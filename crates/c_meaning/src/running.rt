@@ -30,7 +30,7 @@ pub struct Running {
 }
 
 /// What one step did.
-#[derive(Debug, Drop)]
+#[derive(Drop)]
 pub enum Step {
     /// Only the rank's own state changed. A statement may have begun.
     Local { began: bool },

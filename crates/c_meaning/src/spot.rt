@@ -10,7 +10,7 @@ use c3_base::Cell;
 pub const NULL: Cell = Cell { word: 0, serial: 0 };
 
 /// A place, which may lie outside its object: the object's serial, 0 for none, and the distance from its start in cells.
-#[derive(Clone, Copy, Debug, PartialEq, Eq)]
+#[derive(Clone, Copy, PartialEq, Eq)]
 pub struct Spot {
     pub serial: u64,
     pub place: i128,

@@ -15,7 +15,7 @@ use c3_base::Cell;
 use std::alloc::{AllocError, Global};
 
 /// Where a function's variables are.
-#[derive(Clone, Copy, Debug, PartialEq, Eq)]
+#[derive(Clone, Copy, PartialEq, Eq)]
 pub struct Variables {
     /// The serial of the first.
     pub first: u64,

@@ -4,7 +4,7 @@ ghost use Rattle.c_tree.specs.Codes.{code, header_code, operator_code, call_code
 use sqlite_items::Items;
 
 /// What a token is, as far as the grammar tells tokens apart.
-#[derive(Clone, Copy, PartialEq, Eq, Debug)]
+#[derive(Clone, Copy, PartialEq, Eq)]
 pub enum Class {
     /// A name of the program (C99 6.4.2).
     Name,
@@ -77,7 +77,7 @@ pub enum Class {
 }
 
 /// What an `#include` names.
-#[derive(Clone, Copy, PartialEq, Eq, Debug)]
+#[derive(Clone, Copy, PartialEq, Eq)]
 pub enum Header {
     Mpi,
     Stdio,
@@ -85,7 +85,7 @@ pub enum Header {
 }
 
 /// An operator of expressions.
-#[derive(Clone, Copy, PartialEq, Eq, Debug)]
+#[derive(Clone, Copy, PartialEq, Eq)]
 pub enum Operator {
     Star,
     Slash,
@@ -110,7 +110,7 @@ pub enum Operator {
 }
 
 /// A call of MPI.
-#[derive(Clone, Copy, PartialEq, Eq, Debug)]
+#[derive(Clone, Copy, PartialEq, Eq)]
 pub enum Call {
     Init,
     Finalize,
@@ -129,7 +129,7 @@ pub enum Call {
 }
 
 /// A datatype of MPI: `MPI_CHAR`, `MPI_INT` or `MPI_LONG`.
-#[derive(Clone, Copy, PartialEq, Eq, Debug)]
+#[derive(Clone, Copy, PartialEq, Eq)]
 pub enum Datatype {
     Chars,
     Ints,
@@ -137,7 +137,7 @@ pub enum Datatype {
 }
 
 /// A reduction of MPI: `MPI_SUM`, `MPI_PROD`, `MPI_MAX` or `MPI_MIN`.
-#[derive(Clone, Copy, PartialEq, Eq, Debug)]
+#[derive(Clone, Copy, PartialEq, Eq)]
 pub enum Reduction {
     Sum,
     Product,
@@ -146,7 +146,7 @@ pub enum Reduction {
 }
 
 /// What a token stands for beside its class.
-#[derive(Debug, Drop)]
+#[derive(Drop)]
 pub enum Value {
     Nothing,
     /// The value of a number below 2^63 or of a character.
@@ -156,7 +156,7 @@ pub enum Value {
 }
 
 /// A token. Its place is the offset of its first byte in the text.
-#[derive(Debug, Drop)]
+#[derive(Drop)]
 pub struct Token {
     pub class: Class,
     pub value: Value,

@@ -65,7 +65,7 @@ pub enum TypeSpecifier {
 }
 
 /// A type that isn't a struct of the program.
-#[derive(Clone, Copy, PartialEq, Eq, Debug)]
+#[derive(Clone, Copy, PartialEq, Eq)]
 pub enum PlainType {
     Char,
     Int,
@@ -214,7 +214,7 @@ pub enum Suffix<E> {
 }
 
 /// A constant that is a word.
-#[derive(Clone, Copy, PartialEq, Eq, Debug)]
+#[derive(Clone, Copy, PartialEq, Eq)]
 pub enum Constant {
     Null,
     AnySource,
@@ -223,7 +223,7 @@ pub enum Constant {
 }
 
 /// How a member is selected.
-#[derive(Clone, Copy, PartialEq, Eq, Debug)]
+#[derive(Clone, Copy, PartialEq, Eq)]
 pub enum Access {
     Dot,
     Arrow,
@@ -340,7 +340,7 @@ pub enum SimpleStatement {
 }
 
 /// `++` or `--`.
-#[derive(Clone, Copy, PartialEq, Eq, Debug)]
+#[derive(Clone, Copy, PartialEq, Eq)]
 pub enum Step {
     Increment,
     Decrement,
@@ -438,14 +438,14 @@ pub struct Buffer {
 }
 
 /// A datatype at its place.
-#[derive(Clone, Copy, Debug)]
+#[derive(Clone, Copy)]
 pub struct DatatypeWord {
     pub at: u32,
     pub datatype: Datatype,
 }
 
 /// A reduction at its place.
-#[derive(Clone, Copy, Debug)]
+#[derive(Clone, Copy)]
 pub struct ReductionWord {
     pub at: u32,
     pub reduction: Reduction,

@@ -6,9 +6,9 @@ ghost use Rattle.ccift_lower.specs.Lowered as spec;
 ghost use Rattle.ccift_lower.specs.Lowered.{arm_lowering, codes, lowerings, sizes};
 
 use crate::instr::{put_actions, put_free, put_mpi, put_print, put_return, put_test, put_unless};
-use crate::size::{arms_size, for_size, jump_size, more, size_all, test_size};
+use crate::size::{arms_size, for_size, jump_size, size_all, test_size};
 use c_kernel::program::{Action, Arm, Expr, Stmt};
-use flat_code::Instr;
+use flat_code::{Instr, more};
 use sqlite_items::Items;
 use std::alloc::{AllocError, Global};
 

@@ -5,10 +5,10 @@ ghost use Rattle.ccift_lower.specs.Lowered as spec;
 ghost use Rattle.ccift_lower.specs.Lowered.{lowered, lowered_function};
 
 use crate::emit::statements;
-use crate::size::{more, size_all};
+use crate::size::size_all;
 use c_kernel::program::{Expr, Function, Program, Stmt};
-use c_kernel::{Base, CType, ObjectType, Struct};
-use flat_code::{Code, FlatFunction, Instr};
+use c_kernel::{Base, CType, copies_of_structs, copies_of_types};
+use flat_code::{Code, FlatFunction, Instr, more};
 use sqlite_items::Items;
 use std::alloc::{AllocError, Global};
 
@@ -17,21 +17,11 @@ pub fn lower(alloc: Global, program: &Program) -> Result<Code, AllocError>
     ensures { IfOk result (λ code. code ≡ lowered program.now) }
 {
     Ok(Code {
-        structs: structs(alloc, program.structs.as_slice())?,
+        structs: copies_of_structs(alloc, program.structs.as_slice())?,
         functions: functions(alloc, program.functions.as_slice())?,
         main: program.main,
         any_source: program.any_source,
     })
-}
-
-fn structs(alloc: Global, structs: &[Struct]) -> Result<Items<Struct>, AllocError>
-    ensures { IfOk result (λ copies. copies ≡ structs.now) }
-{
-    let mut copies = Items::new(alloc);
-    for structure in structs {
-        copies.push(structure.copy(alloc)?)?;
-    }
-    Ok(copies)
 }
 
 fn functions(alloc: Global, functions: &[Function]) -> Result<Items<FlatFunction>, AllocError>
@@ -51,19 +41,9 @@ fn function(alloc: Global, f: &Function) -> Result<FlatFunction, AllocError>
         name: Items::from_slice(alloc, f.name.as_slice())?,
         result: f.result,
         parameters: f.parameters,
-        variables: variables(alloc, f.variables.as_slice())?,
+        variables: copies_of_types(alloc, f.variables.as_slice())?,
         code: body(alloc, f.body.as_slice(), f.result)?,
     })
-}
-
-fn variables(alloc: Global, types: &[ObjectType]) -> Result<Items<ObjectType>, AllocError>
-    ensures { IfOk result (λ copies. copies ≡ types.now) }
-{
-    let mut copies = Items::new(alloc);
-    for kind in types {
-        copies.push(kind.copy(alloc)?)?;
-    }
-    Ok(copies)
 }
 
 // A body, which counts as a statement, and the return at its end.

@@ -6,6 +6,7 @@ ghost use Rattle.ccift_lower.specs.Lowered as spec;
 ghost use Rattle.ccift_lower.specs.Lowered.{arm_lowering, formed, lowerings, sizes};
 
 use c_kernel::program::{Action, Arm, Expr, Stmt};
+use flat_code::more;
 use std::alloc::AllocError;
 
 /// The instructions of a statement after its `Step`, unless there are too many to count.
@@ -93,15 +94,5 @@ pub fn test_size(test: &Option<Expr>) -> usize
     match test {
         None => 0,
         Some(_) => 1,
-    }
-}
-
-/// A sum, unless it is too large.
-pub fn more(m: usize, n: usize) -> Result<usize, AllocError>
-    ensures { IfOk result (λ sum. sum ≡ m + n) }
-{
-    match m.checked_add(n) {
-        None => Err(AllocError),
-        Some(sum) => Ok(sum),
     }
 }

@@ -7,7 +7,7 @@ ghost use Rattle.ccift_pass.specs.Passed.{passed};
 use crate::instr::put;
 use crate::sites::{next_site, site_places};
 use crate::targets::table;
-use c_kernel::{ObjectType, Struct};
+use c_kernel::{copies_of_structs, copies_of_types};
 use flat_code::{Code, FlatFunction, Instr};
 use sqlite_items::Items;
 use std::alloc::{AllocError, Global};
@@ -17,21 +17,11 @@ pub fn pass(alloc: Global, code: &Code) -> Result<Code, AllocError>
     ensures { IfOk result (λ made. made ≡ passed code.now) }
 {
     Ok(Code {
-        structs: structs(alloc, code.structs.as_slice())?,
+        structs: copies_of_structs(alloc, code.structs.as_slice())?,
         functions: functions(alloc, code.functions.as_slice())?,
         main: code.main,
         any_source: code.any_source,
     })
-}
-
-fn structs(alloc: Global, structs: &[Struct]) -> Result<Items<Struct>, AllocError>
-    ensures { IfOk result (λ copies. copies ≡ structs.now) }
-{
-    let mut copies = Items::new(alloc);
-    for structure in structs {
-        copies.push(structure.copy(alloc)?)?;
-    }
-    Ok(copies)
 }
 
 // The functions, with sites from 1 on.
@@ -54,19 +44,9 @@ fn function(alloc: Global, f: &FlatFunction, site: u32) -> Result<FlatFunction, 
         name: Items::from_slice(alloc, f.name.as_slice())?,
         result: f.result,
         parameters: f.parameters,
-        variables: variables(alloc, f.variables.as_slice())?,
+        variables: copies_of_types(alloc, f.variables.as_slice())?,
         code: body(alloc, f.variables.len(), f.code.as_slice(), site)?,
     })
-}
-
-fn variables(alloc: Global, types: &[ObjectType]) -> Result<Items<ObjectType>, AllocError>
-    ensures { IfOk result (λ copies. copies ≡ types.now) }
-{
-    let mut copies = Items::new(alloc);
-    for kind in types {
-        copies.push(kind.copy(alloc)?)?;
-    }
-    Ok(copies)
 }
 
 // The code of a function with so many variables.

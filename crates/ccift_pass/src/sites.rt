@@ -3,8 +3,8 @@
 ghost use Rattle.std.specs.Prelude.{◌≡◌, ◌+◌, IfOk};
 ghost use Rattle.ccift_pass.specs.Passed as spec;
 
-use crate::targets::{more, width};
-use flat_code::{Instr, Site};
+use crate::targets::width;
+use flat_code::{Instr, Site, more};
 use sqlite_items::Items;
 use std::alloc::{AllocError, Global};
 

@@ -3,7 +3,7 @@
 ghost use Rattle.std.specs.Prelude.{◌≡◌, ◌+◌, IfOk};
 ghost use Rattle.ccift_pass.specs.Passed as spec;
 
-use flat_code::Instr;
+use flat_code::{Instr, more};
 use std::alloc::{AllocError, Global};
 
 /// For each place of the code, and its end, the place where what stands there begins in passed code.
@@ -38,15 +38,5 @@ pub fn width(i: &Instr) -> usize
         Instr::Call { .. } | Instr::Mark(_) => 3,
         Instr::Return(_) => 2,
         _ => 1,
-    }
-}
-
-/// A sum, unless it is too large.
-pub fn more(m: usize, n: usize) -> Result<usize, AllocError>
-    ensures { IfOk result (λ sum. sum ≡ m + n) }
-{
-    match m.checked_add(n) {
-        None => Err(AllocError),
-        Some(sum) => Ok(sum),
     }
 }

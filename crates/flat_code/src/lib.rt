@@ -3,5 +3,7 @@
 
 mod code;
 mod copy;
+mod sum;
 
 pub use code::{Code, FlatFunction, Instr, Site};
+pub use sum::more;

@@ -26,7 +26,7 @@ pub struct Member {
 }
 
 /// What a step came to.
-#[derive(Clone, Copy, Debug)]
+#[derive(Clone, Copy)]
 pub enum Progress {
     /// No operation was asked for.
     Went,

@@ -162,7 +162,18 @@ impl MpiCall {
     {
         Ok(MpiCall {
             function: self.function,
+            names: names(alloc, self.names.as_slice())?,
             arguments: copies(alloc, self.arguments.as_slice())?,
         })
     }
+}
+
+fn names(alloc: Global, names: &[Items<u8>]) -> Result<Items<Items<u8>>, AllocError>
+    ensures { IfOk result (λ copies. copies ≡ names.now) }
+{
+    let mut copies = Items::new(alloc);
+    for name in names {
+        copies.push(Items::from_slice(alloc, name.as_slice())?)?;
+    }
+    Ok(copies)
 }

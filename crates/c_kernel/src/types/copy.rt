@@ -52,3 +52,25 @@ impl Member {
         })
     }
 }
+
+/// Equal structs.
+pub fn copies_of_structs(alloc: Global, structs: &[Struct]) -> Result<Items<Struct>, AllocError>
+    ensures { IfOk result (λ copies. copies ≡ structs.now) }
+{
+    let mut copies = Items::new(alloc);
+    for structure in structs {
+        copies.push(structure.copy(alloc)?)?;
+    }
+    Ok(copies)
+}
+
+/// Equal types.
+pub fn copies_of_types(alloc: Global, types: &[ObjectType]) -> Result<Items<ObjectType>, AllocError>
+    ensures { IfOk result (λ copies. copies ≡ types.now) }
+{
+    let mut copies = Items::new(alloc);
+    for kind in types {
+        copies.push(kind.copy(alloc)?)?;
+    }
+    Ok(copies)
+}

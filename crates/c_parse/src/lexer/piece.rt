@@ -1,7 +1,7 @@
 use c_tree::{Class, Value};
 
 /// What a text begins with.
-#[derive(Debug, Drop)]
+#[derive(Drop)]
 pub enum Piece {
     /// So many bytes between tokens.
     Gap(usize),
