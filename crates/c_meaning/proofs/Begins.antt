@@ -7,9 +7,9 @@ use Rattle.c_kernel.specs.declared.program.Arm.{Arm}
 use Rattle.c_kernel.specs.declared.program.Function.{Function}
 use Rattle.c_kernel.specs.declared.program.Stmt.{Stmt}
 use Rattle.c_meaning.specs.declared.level.Stage.TheVariants as stage
-use Rattle.c_meaning.specs.declared.value.Variables.{Variables}
-use Rattle.c_meaning.specs.Memory.{Memory}
-use Rattle.c_meaning.specs.Value.{Found, value_of, is_false}
+use Rattle.c_values.specs.declared.value.Variables.{Variables}
+use Rattle.c_memory.specs.Memory.{Memory}
+use Rattle.c_values.specs.Value.{Found, value_of, is_false}
 use Rattle.c_meaning.specs.State.{Item, Rest, State, Goes}
 use Rattle.c_meaning.specs.State as state
 use Rattle.c_meaning.specs.Level.{level_items, statement_before, or_break, branch_of}

@@ -10,11 +10,11 @@ use Rattle.c_kernel.specs.declared.program.Action.TheVariants.{Zero, Set, Call, 
 use Rattle.c_kernel.specs.declared.program.Stmt.{Stmt, out-Stmt}
 use Rattle.c_kernel.specs.declared.program.Stmt.TheOpen.{Stmt-F}
 use Rattle.c_kernel.specs.declared.program.Stmt.TheOpen as stmt
-use Rattle.c_meaning.specs.Memory.{Memory, is_full}
-use Rattle.c_meaning.specs.Value.{value_of}
+use Rattle.c_memory.specs.Memory.{Memory, is_full, cells_asked}
+use Rattle.c_values.specs.Value.{value_of}
 use Rattle.c_meaning.specs.State.{Item, Body, Rest, Begun, Acting, Awaiting, Testing, Stepping, State}
 use Rattle.c_meaning.specs.State as state
-use Rattle.c_meaning.specs.Step.{goes_on, does, acts, allocates, cells_asked, with_ok, tests, steps, awaited, step_in}
+use Rattle.c_meaning.specs.Step.{goes_on, does, acts, allocates, with_ok, tests, steps, awaited, step_in}
 
 -- a state and a call with other calls and another list in place of what follows
 abbrev pub other : State → List state.Call → State

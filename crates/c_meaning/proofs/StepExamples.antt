@@ -15,16 +15,17 @@ use Rattle.c_kernel.specs.declared.program.Expr.TheViews.{roll-Expr}
 use Rattle.c_kernel.specs.declared.program.Stmt.{Stmt}
 use Rattle.c_kernel.specs.declared.program.Stmt.TheOpen.{Stmt-F}
 use Rattle.c_kernel.specs.declared.program.Stmt.TheViews.{roll-Stmt}
-use Rattle.c_meaning.specs.declared.seat.Seat.{Seat}
-use Rattle.c_meaning.specs.declared.seat.Phase.TheVariants.{Before, Inside}
-use Rattle.c_meaning.specs.Memory.{number, null, pointer, is_full}
-use Rattle.c_meaning.specs.Value.{value_of}
-use Rattle.c_meaning.specs.Text.{printed}
-use Rattle.c_meaning.specs.State.{Item, Body, Rest, Begun, Acting, Awaiting, Testing, Stepping, State, Outcome, Goes, Asks, Ends}
+use Rattle.mpi_effects.specs.declared.seat.Seat.{Seat}
+use Rattle.mpi_effects.specs.declared.seat.Phase.TheVariants.{Before, Inside}
+use Rattle.c_memory.specs.Memory.{number, null, pointer, is_full}
+use Rattle.c_values.specs.Value.{value_of}
+use Rattle.c_values.specs.Text.{printed}
+use Rattle.c_meaning.specs.State.{Item, Body, Rest, Begun, Testing, Stepping, State, Outcome, Goes, Asks, Ends}
 use Rattle.c_meaning.specs.State as state
-use Rattle.c_meaning.specs.Step.{step, branch, does, acts, tests, answered, plain_request, start}
-use Rattle.c_meaning.proofs.Nodes.{value_roll}
-use Rattle.c_meaning.proofs.ValueExamples.{figure, place, loaded, address, one, seven}
+use Rattle.c_meaning.specs.Step.{step, branch, does, acts, tests, answered, start}
+use Rattle.mpi_effects.specs.Requests.{plain_request}
+use Rattle.c_values.proofs.Nodes.{value_roll}
+use Rattle.c_values.proofs.ValueExamples.{figure, place, loaded, address, one, seven}
 
 abbrev pub seat : Seat
 seat = record { rank = 2; ranks = 4; any_source = false }

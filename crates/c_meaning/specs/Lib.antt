@@ -1,12 +1,4 @@
-pub mod Memory
-pub mod Written
-pub mod Order
-pub mod Seen
-pub mod Kept
-pub mod Value
 pub mod State
-pub mod Mpi
-pub mod Text
 pub mod Step
 pub mod Level
 pub mod Running

@@ -9,9 +9,6 @@ use Rattle.c_meaning.specs.declared.frame.Frame.{Frame}
 use Rattle.c_meaning.specs.declared.running.Running.{Running}
 use Rattle.c_meaning.specs.declared.running.Step.{Step}
 use Rattle.c_meaning.specs.declared.running.Step.TheVariants.{Local, Wants, Ended}
-use Rattle.c_meaning.specs.declared.mpi.Effect as mpi
-use Rattle.c_meaning.specs.Memory.{Memory}
-use Rattle.c_meaning.specs.Mpi.{Effect}
 use Rattle.c_meaning.specs.Level.{block_at, items_of, level_items}
 use Rattle.c_meaning.specs.State.{Item, State, Outcome, Goes, Asks, Ends}
 use Rattle.c_meaning.specs.State as state
@@ -41,11 +38,11 @@ below functions run = calls_of functions run.frames.items
 abbrev pub state_of : List Function → Running → State
 state_of functions run = record {
   calls = calls_of functions run.frames.items;
-  memory = run.memory;
-  seat = run.requests.seat;
-  phase = run.requests.phase;
-  printed = run.requests.printed;
-  asked = run.requests.asked;
+  memory = run.world.memory;
+  seat = run.world.requests.seat;
+  phase = run.world.requests.phase;
+  printed = run.world.requests.printed;
+  asked = run.world.requests.asked;
 }
 
 -- the state with one more call
@@ -62,10 +59,6 @@ outcome_of (Ended end) s = Ends end
 abbrev pub answer_of : Option End → State → Outcome
 answer_of None s = Goes false s
 answer_of (Some end) s = Ends end
-
--- what a call of MPI comes to, with the memory after it
-abbrev pub with_memory : Memory → mpi.Effect → Effect
-with_memory m e = record { memory = m; phase = e.phase; request = e.request }
 
 -- a step in the newest call, which was taken from the others
 abbrev pub in_call : {A : Type 0} → (State → state.Call → List state.Call → A) → List Function → Running → Frame → A

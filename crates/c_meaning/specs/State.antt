@@ -5,11 +5,11 @@ use Rattle.mpi_words.specs.declared.operation.End.{End}
 use Rattle.c_kernel.specs.declared.program.Stmt.{Stmt}
 use Rattle.c_kernel.specs.declared.program.Action.{Action}
 use Rattle.c_kernel.specs.declared.program.Target.{Target}
-use Rattle.c_meaning.specs.Memory.{Memory}
-use Rattle.c_meaning.specs.declared.seat.Seat.{Seat}
-use Rattle.c_meaning.specs.declared.seat.Phase.{Phase}
-use Rattle.c_meaning.specs.declared.requests.Request.{Request}
-use Rattle.c_meaning.specs.declared.value.Variables.{Variables}
+use Rattle.c_memory.specs.Memory.{Memory}
+use Rattle.mpi_effects.specs.declared.seat.Seat.{Seat}
+use Rattle.mpi_effects.specs.declared.seat.Phase.{Phase}
+use Rattle.mpi_effects.specs.declared.requests.Request.{Request}
+use Rattle.c_values.specs.declared.value.Variables.{Variables}
 
 -- what follows in a function
 pub data Item : Type 0 where

@@ -1,12 +1,10 @@
 -- What one step of a program does (C99 6.8).
-use Rattle.std.specs.Prelude.{ℕ, suc, ◌+◌, ◌*◌, ◌/◌, ℤ, pos, negsuc, Bool, true, false, ◌&&◌, nat_lt, if◌then◌else◌, List, [], ◌∷◌, length, map, Option, Some, None, Result, Ok, Err, slice_get}
+use Rattle.std.specs.Prelude.{ℕ, ◌+◌, pos, Bool, true, false, nat_lt, if◌then◌else◌, List, [], ◌∷◌, length, map, Option, Some, None, Result, Ok, Err, slice_get}
 use Rattle.c3_base.specs.declared.cell.Cell.{Cell}
-use Rattle.mpi_words.specs.declared.operation.Op.{Op}
 use Rattle.mpi_words.specs.declared.operation.Op.TheVariants as op
 use Rattle.mpi_words.specs.declared.operation.End.TheVariants.{Exit, Fault}
 use Rattle.mpi_words.specs.declared.operation.Reply.{Reply}
 use Rattle.mpi_words.specs.declared.operation.Reply.TheVariants as reply
-use Rattle.c_kernel.specs.declared.types.Extent.{Extent}
 use Rattle.c_kernel.specs.declared.types.IntegerType.TheVariants.{Int}
 use Rattle.c_kernel.specs.declared.program.Function.{Function}
 use Rattle.c_kernel.specs.declared.program.Program.{Program}
@@ -19,15 +17,16 @@ use Rattle.c_kernel.specs.declared.program.Action.TheVariants.{Zero, Set, Call, 
 use Rattle.c_kernel.specs.declared.program.Stmt.{Stmt, out-Stmt}
 use Rattle.c_kernel.specs.declared.program.Stmt.TheOpen.{Stmt-F}
 use Rattle.c_kernel.specs.declared.program.Stmt.TheOpen as stmt
-use Rattle.c_meaning.specs.declared.seat.Seat.{Seat}
-use Rattle.c_meaning.specs.declared.seat.Phase.TheVariants.{Before}
-use Rattle.c_meaning.specs.declared.requests.Request.{Request}
-use Rattle.c_meaning.specs.declared.requests.Receipt.{Receipt}
-use Rattle.c_meaning.specs.declared.value.Variables.{Variables}
-use Rattle.c_meaning.specs.Memory.{Memory, empty, number, null, pointer, put, store, zeroed, enter, leave, grant, refuse, may_refuse, free}
-use Rattle.c_meaning.specs.Value.{is_false, narrowed, read_of, variable_of, place_of, value_of, values_of}
-use Rattle.c_meaning.specs.Text.{printed}
-use Rattle.c_meaning.specs.Mpi.{Effect, effect, received}
+use Rattle.mpi_effects.specs.declared.seat.Seat.{Seat}
+use Rattle.mpi_effects.specs.declared.seat.Phase.TheVariants.{Before}
+use Rattle.mpi_effects.specs.declared.requests.Request.{Request}
+use Rattle.mpi_effects.specs.declared.requests.Receipt.{Receipt}
+use Rattle.c_values.specs.declared.value.Variables.{Variables}
+use Rattle.c_memory.specs.Memory.{Memory, empty, number, store, zeroed, enter, leave, with_arguments, cells_asked, malloc, free}
+use Rattle.c_values.specs.Value.{is_false, narrowed, read_of, variable_of, place_of, value_of, values_of}
+use Rattle.c_values.specs.Text.{printed}
+use Rattle.mpi_effects.specs.Requests.{plain_request, bytes_asked, receipt_of}
+use Rattle.mpi_effects.specs.Mpi.{Effect, effect, received}
 use Rattle.c_meaning.specs.State.{Item, Body, Rest, Begun, Acting, Awaiting, Testing, Stepping, State, Outcome, Goes, Asks, Ends, after_loop, to_loop}
 use Rattle.c_meaning.specs.State as state
 
@@ -59,16 +58,7 @@ goes_with s top below todo m = Goes false (record s { calls = record top { todo 
 abbrev pub asks : State → state.Call → List state.Call → List Item → Request → Outcome
 asks s top below todo q = Asks q.operation (record s { calls = record top { todo = todo } ∷ below; asked = Some q })
 
--- an operation of whose reply nothing is kept
-abbrev pub plain_request : Op → Request
-plain_request o = record { operation = o; receipt = None }
-
 -- ---- calls (6.5.2.2)
-
--- the parameters get the values
-abbrev pub with_arguments : Memory → ℕ → List Cell → Memory
-with_arguments m serial [] = m
-with_arguments m serial (v ∷ vs) = with_arguments (put m (record { serial = serial; place = pos 0 }) v) (suc serial) vs
 
 -- a call that begins
 abbrev pub call_of : List Function → ℕ → ℕ → state.Call
@@ -105,26 +95,7 @@ comes_back s (caller ∷ below) v = awaited s caller below caller.todo v
 abbrev pub returned : State → state.Call → List state.Call → Cell → Outcome
 returned s top below v = comes_back (record s { calls = below; memory = leave s.memory top.variables.count }) below v
 
--- ---- malloc (7.20.3.3)
-
--- how many cells it asks for; none, where so many bytes hold no object
-abbrev pub cells_asked : ℤ → Extent → Option ℕ
-cells_asked (negsuc n) each = None
-cells_asked (pos n) each = if nat_lt 0 (n / each.size) then Some (n / each.size * each.cells) else None
-
--- whether NULL is given, by the choice where there is one
-abbrev pub is_refused : (Memory → ℕ → Bool) → Memory → ℕ → Bool
-is_refused refuses m n = may_refuse m n && refuses m n
-
--- the memory then, and the pointer
-abbrev pub allocated : (Memory → ℕ → Bool) → Memory → ℕ → Memory × Cell
-allocated refuses m n = if is_refused refuses m n then (refuse m n, null) else (grant m n, pointer m.next (pos 0))
-
-abbrev pub malloc : (Memory → ℕ → Bool) → Memory → Option ℕ → Memory × Cell
-malloc refuses m None = (m, null)
-malloc refuses m (Some n) = allocated refuses m n
-
--- what it gives is stored at a place
+-- what malloc gives is stored at a place
 abbrev pub allocates : (Memory → ℕ → Bool) → State → state.Call → List state.Call → List Item → Place Expr → Option ℕ → Outcome
 allocates refuses s top below todo place asked =
     let given = malloc refuses s.memory asked in
@@ -246,17 +217,6 @@ begins s = elim s.asked [ None ↦ begins_in s.calls | Some q ↦ false ]
 
 -- ---- replies and the start
 
--- how many bytes an operation prints
-abbrev pub bytes_of : Op → ℕ
-bytes_of (op.Send to message) = 0
-bytes_of (op.Receive patterns) = 0
-bytes_of (op.Output text) = length text
-bytes_of op.Mark = 0
-
-abbrev pub bytes_asked : Option Request → ℕ
-bytes_asked None = 0
-bytes_asked (Some q) = bytes_of q.operation
-
 -- the operation is done
 abbrev pub finished : State → State
 finished s = record s { asked = None; printed = s.printed + bytes_asked s.asked }
@@ -265,10 +225,6 @@ finished s = record s { asked = None; printed = s.printed + bytes_asked s.asked 
 abbrev pub taken_in : State → Option Receipt → Reply → Outcome
 taken_in s (Some r) (reply.Got source message) = with_ok (received r s.memory source message) (λ m. Goes false (record s { memory = m }))
 taken_in s _ _ = Goes false s
-
-abbrev pub receipt_of : Option Request → Option Receipt
-receipt_of None = None
-receipt_of (Some q) = q.receipt
 
 -- after the reply the rank goes on, or ends
 abbrev pub answered : State → Reply → Outcome

@@ -1,18 +1,17 @@
 //! Results that come back.
 
 ghost use Rattle.std.specs.Prelude.{◌≡◌, IfOk};
-ghost use Rattle.c_kernel.specs.declared.types.IntegerType.TheVariants.{Int};
 ghost use Rattle.c_meaning.specs.declared.level.Stage.TheVariants.{Awaiting};
 ghost use Rattle.c_meaning.specs.Running.{todo, state_of, outcome_of, in_call, standing};
 ghost use Rattle.c_meaning.specs.Step.{awaited, returned};
-ghost use Rattle.c_meaning.specs.Value as spec;
 
 use crate::frame::Frame;
 use crate::level::{Part, Stage, actions_before, target_before};
 use crate::levels::push;
 use crate::running::{Running, Step, block};
-use crate::value::read;
 use c_kernel::program::Function;
+use c_values::number::exit_code;
+use c_values::value::read;
 use c3_base::{Cell, NoMemory};
 use mpi_words::End;
 
@@ -26,7 +25,7 @@ impl Running {
     ) -> Result<Step, NoMemory>
         ensures { IfOk result (λ did. outcome_of did (state_of functions.now self.new) ≡ in_call returned functions.now self.old frame v) }
     {
-        self.memory.leave(frame.variables.count);
+        self.world.memory.leave(frame.variables.count);
         match self.frames.pop() {
             None => Ok(Step::Ended(End::Exit(exit_code(v)))),
             Some(caller) => self.come_back(functions, caller, v),
@@ -84,11 +83,4 @@ impl Running {
             Some(target) => self.store(caller, &target.place, read(target.kind, v)),
         }
     }
-}
-
-// The exit code of a value of `main`.
-fn exit_code(v: Cell) -> i32
-    ensures { result ≡ spec.narrowed Int v.word }
-{
-    (v.word.rem_euclid(4_294_967_296) as u32).cast_signed()
 }

@@ -2,21 +2,20 @@
 
 ghost use Rattle.std.specs.Prelude.{◌≡◌, ◌∷◌, ◌+◌, ◌<◌, ◌^◌, IfOk, IfErr, List, length, map};
 ghost use Rattle.c_kernel.specs.declared.program.Function as program;
-ghost use Rattle.c_meaning.specs.Memory.{map_ok};
-ghost use Rattle.c_meaning.specs.Memory as spec;
+ghost use Rattle.c_memory.specs.Memory.{map_ok};
+ghost use Rattle.c_memory.specs.Memory as spec;
 ghost use Rattle.c_meaning.specs.Running.{call_of, below, state_of, outcome_of};
-ghost use Rattle.c_meaning.specs.Step.{lengths_of, with_ok, with_arguments, enters};
+ghost use Rattle.c_meaning.specs.Step.{lengths_of, with_ok, enters};
 ghost use Rattle.c_meaning.specs.Step as step;
-ghost use Rattle.c_meaning.specs.Value.{values_of};
+ghost use Rattle.c_values.specs.Value.{values_of};
 
 use crate::frame::Frame;
 use crate::levels::first as first_levels;
-use crate::memory::Memory;
 use crate::running::{Running, Step, fault};
-use crate::spot::Spot;
-use crate::value::{Variables, values};
 use c_kernel::ObjectType;
 use c_kernel::program::{Expr, Function};
+use c_memory::Objects;
+use c_values::value::{Variables, values};
 use c3_base::{Cell, NoMemory};
 use std::alloc::{AllocError, Global};
 
@@ -29,10 +28,10 @@ impl Running {
         function: usize,
         arguments: &[Expr],
     ) -> Result<Step, NoMemory>
-        requires { self.old.memory.next < 2 ^ 62 }
-        ensures { IfOk result (λ did. outcome_of did (state_of functions.now self.new) ≡ with_ok (values_of arguments.now caller.variables self.old.memory) (enters functions.now (state_of functions.now self.old) (call_of functions.now caller ∷ below functions.now self.old) function)) }
+        requires { self.old.world.memory.next < 2 ^ 62 }
+        ensures { IfOk result (λ did. outcome_of did (state_of functions.now self.new) ≡ with_ok (values_of arguments.now caller.variables self.old.world.memory) (enters functions.now (state_of functions.now self.old) (call_of functions.now caller ∷ below functions.now self.old) function)) }
     {
-        match values(self.alloc, arguments, &caller.variables, &self.memory)? {
+        match values(self.alloc, arguments, &caller.variables, &self.world.memory)? {
             Err(code) => fault(code),
             Ok(vs) => {
                 self.frames.push(caller)?;
@@ -48,14 +47,14 @@ impl Running {
         function: usize,
         arguments: &[Cell],
     ) -> Result<Step, NoMemory>
-        requires { self.old.memory.next < 2 ^ 62 }
+        requires { self.old.world.memory.next < 2 ^ 62 }
         ensures { IfOk result (λ did. outcome_of did (state_of functions.now self.new) ≡ enters functions.now (state_of functions.now self.old) (below functions.now self.old) function arguments.now) }
     {
-        let first = self.memory.next();
+        let first = self.world.memory.next();
         match self.push_call(functions, function)? {
             Err(code) => fault(code),
             Ok(()) => {
-                pass(&mut self.memory, first, arguments);
+                self.world.memory.pass(first, arguments);
                 Ok(Step::Local { began: false })
             }
         }
@@ -67,15 +66,15 @@ impl Running {
         functions: &[Function],
         function: usize,
     ) -> Result<Result<(), u16>, NoMemory>
-        requires { self.old.memory.next < 2 ^ 62 }
-        ensures memory { IfOk result (λ did. map_ok (λ done. self.new.memory) did ≡ spec.enter self.old.memory (lengths_of functions.now function)) }
-        ensures calls { IfOk result (λ did. IfOk did (λ done. below functions.now self.new ≡ step.call_of functions.now function self.old.memory.next ∷ below functions.now self.old)) }
+        requires { self.old.world.memory.next < 2 ^ 62 }
+        ensures memory { IfOk result (λ did. map_ok (λ done. self.new.world.memory) did ≡ spec.enter self.old.world.memory (lengths_of functions.now function)) }
+        ensures calls { IfOk result (λ did. IfOk did (λ done. below functions.now self.new ≡ step.call_of functions.now function self.old.world.memory.next ∷ below functions.now self.old)) }
         ensures same { IfOk result (λ did. IfErr did (λ code. self.new ≡ self.old)) }
-        ensures requests { self.new.requests ≡ self.old.requests }
+        ensures requests { self.new.world.requests ≡ self.old.world.requests }
     {
-        let first = self.memory.next();
+        let first = self.world.memory.next();
         let lengths = lengths(self.alloc, functions, function)?;
-        match self.memory.enter(&lengths)? {
+        match self.world.memory.enter(&lengths)? {
             Err(code) => Ok(Err(code)),
             Ok(()) => {
                 let frame = frame(self.alloc, function, first, lengths.len())?;
@@ -117,16 +116,4 @@ fn cells_of(alloc: Global, types: &[ObjectType]) -> Result<Vec<u32>, AllocError>
         lengths.push(t.cells)?;
     }
     Ok(lengths)
-}
-
-// The parameters get the values.
-fn pass(memory: &mut Memory, first: u64, arguments: &[Cell])
-    requires { first < 2 ^ 62 }
-    ensures { memory.new ≡ with_arguments memory.old first arguments.now }
-{
-    let mut serial = first;
-    for v in arguments {
-        memory.put(Spot { serial, place: 0 }, *v);
-        serial += 1;
-    }
 }

@@ -3,12 +3,12 @@
 ghost use Rattle.std.specs.Prelude.{◌≡◌, ◌+◌, ◌<◌, ◌^◌, List};
 ghost use Rattle.c_kernel.specs.declared.program.Stmt as statement;
 ghost use Rattle.c_meaning.specs.Level.{branch_of};
-ghost use Rattle.c_meaning.specs.Memory.{map_ok};
+ghost use Rattle.c_memory.specs.Memory.{map_ok};
 ghost use Rattle.c_meaning.specs.Step.{branch};
 
-use crate::memory::Memory;
-use crate::value::{Variables, is_false, value};
 use c_kernel::program::{Arm, Stmt};
+use c_memory::Memory;
+use c_values::value::{Variables, is_false, value};
 
 /// Which branch of an `if` is taken, counted from 0.
 pub fn chosen(arms: &[Arm<Stmt>], variables: &Variables, memory: &Memory) -> Result<usize, u16>

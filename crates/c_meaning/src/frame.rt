@@ -3,7 +3,7 @@
 ghost use Rattle.std.specs.Prelude.{◌+◌, ◌<◌, ◌^◌};
 
 use crate::level::Level;
-use crate::value::Variables;
+use c_values::value::Variables;
 
 /// A call that is under way, with its levels, the outermost first.
 #[derive(Drop)]

@@ -2,7 +2,7 @@
 
 ghost use Rattle.std.specs.Prelude.{◌≡◌, ◌<◌, ◌^◌, ℕ, IfOk, is_some, List};
 ghost use Rattle.c_meaning.specs.Level.{level_items};
-ghost use Rattle.c_meaning.specs.Memory.{is_full};
+ghost use Rattle.c_memory.specs.Memory.{is_full};
 ghost use Rattle.c_meaning.specs.State.{Item};
 ghost use Rattle.c_kernel.specs.declared.program.Program as program;
 ghost use Rattle.c_meaning.specs.Rank.{functions_of, state_of};
@@ -11,12 +11,11 @@ ghost use Rattle.c_meaning.specs.Step as step;
 
 use crate::frame::Frame;
 use crate::level::{Stage, block_at, body};
-use crate::memory::Memory;
-use crate::requests::Requests;
 use crate::running::{Running, Step};
-use crate::seat::Seat;
 use c_kernel::program::{Function, Program, Stmt};
+use c_memory::Memory;
 use c3_base::NoMemory;
+use mpi_effects::{Requests, Seat, World};
 use mpi_words::{End, Reply};
 use std::alloc::Global;
 use std::rc::Rc;
@@ -53,7 +52,7 @@ impl Rank {
     pub fn begins(&self) -> bool
         ensures { result ≡ step.begins (state_of self.now) }
     {
-        if self.running.requests.asked.is_some() {
+        if self.running.world.requests.asked.is_some() {
             return false;
         }
         self.running.begins(self.program.functions.as_slice())
@@ -63,7 +62,7 @@ impl Rank {
     pub fn waits(&self) -> bool
         ensures { result ≡ is_some (state_of self.now).asked }
     {
-        self.running.requests.asked.is_some()
+        self.running.world.requests.asked.is_some()
     }
 
     /// One step. After an error or an end the rank is not used further.
@@ -95,9 +94,11 @@ fn started(
 {
     let mut running = Running {
         alloc,
-        memory: Memory::new(alloc),
+        world: World {
+            memory: Memory::new(alloc),
+            requests: Requests::new(seat),
+        },
         frames: Vec::new(alloc),
-        requests: Requests::new(seat),
     };
     let _ = running.push_call(functions, main)?;
     Ok(running)

@@ -13,20 +13,19 @@ ghost use Rattle.c_meaning.specs.Step.{goes_to};
 use crate::frame::Frame;
 use crate::level::{Stage, block_at, body};
 use crate::levels::{push, push_inside};
-use crate::memory::Memory;
-use crate::requests::Requests;
 use c_kernel::program::{Function, Stmt};
+use c_memory::Memory;
 use c3_base::NoMemory;
+use mpi_effects::World;
 use mpi_words::{End, Op};
 use std::alloc::Global;
 
-/// What a program that runs has: its memory, its calls, the newest last, and what it asked for.
+/// What a program that runs has: what it acts on, and its calls, the newest last.
 #[derive(Drop)]
 pub struct Running {
     pub alloc: Global,
-    pub memory: Memory,
+    pub world: World<Memory>,
     pub frames: Vec<Frame>,
-    pub requests: Requests,
 }
 
 /// What one step did.

@@ -8,24 +8,24 @@ ghost use Rattle.c_meaning.specs.Level as level;
 ghost use Rattle.c_kernel.specs.declared.program.Function as program;
 ghost use Rattle.c_meaning.specs.Running.{todo, block_of, state_of, outcome_of, in_call, standing};
 ghost use Rattle.c_meaning.specs.State.{Rest, after_loop, to_loop};
-ghost use Rattle.c_meaning.specs.Memory as memory;
-ghost use Rattle.c_meaning.specs.Memory.{is_full};
-ghost use Rattle.c_meaning.specs.Step.{goes_to, goes_with, asks, goes_on, does, branch, prints, returned, with_ok, bytes_of};
-ghost use Rattle.c_meaning.specs.Text.{printed};
-ghost use Rattle.c_meaning.specs.Value.{value_of, values_of};
+ghost use Rattle.c_memory.specs.Memory as memory;
+ghost use Rattle.c_memory.specs.Memory.{is_full};
+ghost use Rattle.c_meaning.specs.Step.{goes_to, goes_with, asks, goes_on, does, branch, prints, returned, with_ok};
+ghost use Rattle.mpi_effects.specs.Requests.{bytes_of};
+ghost use Rattle.c_values.specs.Text.{printed};
+ghost use Rattle.c_values.specs.Value.{value_of, values_of};
 
 use crate::choice::chosen;
 use crate::frame::Frame;
 use crate::level::{Part, Stage, begun};
 use crate::levels::{continue_loop, leave_loop, push};
-use crate::number::number;
-use crate::print::text;
-use crate::requests::Request;
 use crate::running::{Running, Step, block, fault};
-use crate::value::{value, values};
 use c_kernel::program::{Arm, Expr, Function, Piece, Stmt};
+use c_memory::number;
+use c_values::value::value;
 use c3_base::{Cell, NoMemory};
-use mpi_words::{List, Op};
+use mpi_effects::Request;
+use mpi_words::Op;
 
 impl Running {
     /// A statement that has begun.
@@ -98,9 +98,9 @@ impl Running {
         otherwise: &[Stmt],
     ) -> Result<Step, NoMemory>
         requires { out-Stmt (level.statement_before (block_of functions.now frame) next) ≡ If arms.now otherwise.now }
-        ensures { IfOk result (λ did. outcome_of did (state_of functions.now self.new) ≡ with_ok (branch arms.now otherwise.now frame.variables self.old.memory) (λ ss. in_call goes_to functions.now self.old frame (Rest ss ∷ standing functions.now frame next Between))) }
+        ensures { IfOk result (λ did. outcome_of did (state_of functions.now self.new) ≡ with_ok (branch arms.now otherwise.now frame.variables self.old.world.memory) (λ ss. in_call goes_to functions.now self.old frame (Rest ss ∷ standing functions.now frame next Between))) }
     {
-        match chosen(arms, &frame.variables, &self.memory) {
+        match chosen(arms, &frame.variables, &self.world.memory) {
             Err(code) => fault(code),
             Ok(inner) => self.put_inside(frame, next, Stage::Between, inner),
         }
@@ -128,9 +128,9 @@ impl Running {
         frame: Frame,
         e: &Expr,
     ) -> Result<Step, NoMemory>
-        ensures { IfOk result (λ did. outcome_of did (state_of functions.now self.new) ≡ with_ok (value_of e.now frame.variables self.old.memory) (in_call returned functions.now self.old frame)) }
+        ensures { IfOk result (λ did. outcome_of did (state_of functions.now self.new) ≡ with_ok (value_of e.now frame.variables self.old.world.memory) (in_call returned functions.now self.old frame)) }
     {
-        match value(e, &frame.variables, &self.memory) {
+        match value(e, &frame.variables, &self.world.memory) {
             Err(code) => fault(code),
             Ok(v) => self.give_back(functions, frame, v),
         }
@@ -138,18 +138,18 @@ impl Running {
 
     // `free`.
     fn free(&mut self, frame: Frame, next: usize, e: &Expr) -> Result<Step, NoMemory>
-        ensures { IfOk result (λ did. (functions : List program.Function) → outcome_of did (state_of functions self.new) ≡ with_ok (value_of e.now frame.variables self.old.memory) (λ p. with_ok (memory.free self.old.memory p) (in_call goes_with functions self.old frame (standing functions frame next Between)))) }
+        ensures { IfOk result (λ did. (functions : List program.Function) → outcome_of did (state_of functions self.new) ≡ with_ok (value_of e.now frame.variables self.old.world.memory) (λ p. with_ok (memory.free self.old.world.memory p) (in_call goes_with functions self.old frame (standing functions frame next Between)))) }
     {
-        match value(e, &frame.variables, &self.memory) {
+        match value(e, &frame.variables, &self.world.memory) {
             Err(code) => fault(code),
             Ok(pointer) => self.free_object(frame, next, pointer),
         }
     }
 
     fn free_object(&mut self, frame: Frame, next: usize, pointer: Cell) -> Result<Step, NoMemory>
-        ensures { IfOk result (λ did. (functions : List program.Function) → outcome_of did (state_of functions self.new) ≡ with_ok (memory.free self.old.memory pointer) (in_call goes_with functions self.old frame (standing functions frame next Between))) }
+        ensures { IfOk result (λ did. (functions : List program.Function) → outcome_of did (state_of functions self.new) ≡ with_ok (memory.free self.old.world.memory pointer) (in_call goes_with functions self.old frame (standing functions frame next Between))) }
     {
-        match self.memory.free(pointer) {
+        match self.world.memory.free(pointer) {
             Err(code) => fault(code),
             Ok(()) => self.put(frame, next, Stage::Between),
         }
@@ -163,32 +163,25 @@ impl Running {
         format: &[Piece],
         arguments: &[Expr],
     ) -> Result<Step, NoMemory>
-        ensures { IfOk result (λ did. (functions : List program.Function) → outcome_of did (state_of functions self.new) ≡ with_ok (values_of arguments.now frame.variables self.old.memory) (λ vs. in_call prints functions self.old frame (standing functions frame next Between) (printed format.now vs))) }
+        ensures { IfOk result (λ did. (functions : List program.Function) → outcome_of did (state_of functions self.new) ≡ with_ok (values_of arguments.now frame.variables self.old.world.memory) (λ vs. in_call prints functions self.old frame (standing functions frame next Between) (printed format.now vs))) }
     {
-        match values(self.alloc, arguments, &frame.variables, &self.memory)? {
+        match self
+            .world
+            .print(self.alloc, &frame.variables, format, arguments)?
+        {
             Err(code) => fault(code),
-            Ok(vs) => self.output(frame, next, text(self.alloc, format, &vs)?),
+            Ok(request) => self.ask(frame, next, request),
         }
-    }
-
-    fn output(&mut self, frame: Frame, next: usize, text: List<u8>) -> Result<Step, NoMemory>
-        ensures { IfOk result (λ did. (functions : List program.Function) → outcome_of did (state_of functions self.new) ≡ in_call prints functions self.old frame (standing functions frame next Between) text) }
-    {
-        if self.requests.printed + text.as_slice().len() as u64 > 1_048_576 {
-            return fault(109);
-        }
-        self.ask(frame, next, Request::plain(Op::Output(text)))
     }
 
     /// An operation, which waits for its reply.
     pub fn ask(&mut self, mut frame: Frame, next: usize, request: Request) -> Result<Step, NoMemory>
-        requires { self.old.requests.printed + bytes_of request.operation ≤ 1048576 }
+        requires { self.old.world.requests.printed + bytes_of request.operation ≤ 1048576 }
         ensures { IfOk result (λ did. (functions : List program.Function) → outcome_of did (state_of functions self.new) ≡ in_call asks functions self.old frame (standing functions frame next Between) request) }
     {
-        let asked = request.operation.copy()?;
+        let asked = self.world.requests.ask(request)?;
         push(&mut frame.levels, next, Stage::Between)?;
         self.frames.push(frame)?;
-        self.requests.ask(request);
         Ok(Step::Wants(asked))
     }
 }

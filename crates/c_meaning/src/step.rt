@@ -2,7 +2,7 @@
 
 ghost use Rattle.std.specs.Prelude.{◌≡◌, ◌<◌, ◌^◌, IfOk};
 ghost use Rattle.c_meaning.specs.declared.level.Stage.TheVariants.{Between};
-ghost use Rattle.c_meaning.specs.Memory.{is_full};
+ghost use Rattle.c_memory.specs.Memory.{is_full};
 ghost use Rattle.c_meaning.specs.Running.{below, state_of, outcome_of, in_call, standing};
 ghost use Rattle.c_meaning.specs.Step.{goes_on, step_in};
 ghost use Rattle.c_meaning.specs.Step as spec;
@@ -10,25 +10,25 @@ ghost use Rattle.c_meaning.specs.Step as spec;
 use crate::frame::Frame;
 use crate::level::Stage;
 use crate::levels::push;
-use crate::number::number;
 use crate::running::{Running, Step, block, fault};
 use c_kernel::program::Function;
+use c_memory::number;
 use c3_base::NoMemory;
 
 impl Running {
     /// One step.
     pub fn step(&mut self, functions: &[Function]) -> Result<Step, NoMemory>
-        requires { self.old.memory.next < 2 ^ 62 }
+        requires { self.old.world.memory.next < 2 ^ 62 }
         ensures { IfOk result (λ did. outcome_of did (state_of functions.now self.new) ≡ spec.step functions.now is_full (state_of functions.now self.old)) }
     {
-        match &self.requests.asked {
+        match &self.world.requests.asked {
             None => self.step_in(functions),
             Some(request) => Ok(Step::Wants(request.operation.copy()?)),
         }
     }
 
     fn step_in(&mut self, functions: &[Function]) -> Result<Step, NoMemory>
-        requires { self.old.memory.next < 2 ^ 62 }
+        requires { self.old.world.memory.next < 2 ^ 62 }
         ensures { IfOk result (λ did. outcome_of did (state_of functions.now self.new) ≡ step_in functions.now is_full (state_of functions.now self.old) (below functions.now self.old)) }
     {
         let Some(mut frame) = self.frames.pop() else {
@@ -48,7 +48,7 @@ impl Running {
         next: usize,
         stage: Stage,
     ) -> Result<Step, NoMemory>
-        requires { self.old.memory.next < 2 ^ 62 }
+        requires { self.old.world.memory.next < 2 ^ 62 }
         ensures { IfOk result (λ did. outcome_of did (state_of functions.now self.new) ≡ in_call (goes_on functions.now is_full) functions.now self.old frame (standing functions.now frame next stage)) }
     {
         match stage {

@@ -13,8 +13,8 @@ ghost use Rattle.c_meaning.specs.Step.{tests, steps, turns};
 use crate::frame::Frame;
 use crate::level::{Part, Stage, begun};
 use crate::running::{Running, Step, block, fault};
-use crate::value::{is_false, value};
 use c_kernel::program::{Expr, Function, Stmt};
+use c_values::value::{is_false, value};
 use c3_base::NoMemory;
 
 impl Running {
@@ -66,7 +66,7 @@ impl Running {
     ) -> Result<Step, NoMemory>
         ensures { IfOk result (λ did. (functions : List program.Function) → outcome_of did (state_of functions self.new) ≡ in_call turns functions self.old frame (standing functions frame next Between) test.now (Rest (branch_in (out-Stmt (level.statement_before (block_of functions frame) next)) 0) ∷ standing functions frame next stage)) }
     {
-        match value(test, &frame.variables, &self.memory) {
+        match value(test, &frame.variables, &self.world.memory) {
             Err(code) => fault(code),
             Ok(v) => {
                 if is_false(v) {

@@ -15,10 +15,10 @@ use Rattle.c_kernel.specs.declared.program.Expr.TheVariants as expr
 use Rattle.c_kernel.specs.declared.program.Function.{Function}
 use Rattle.c_kernel.specs.declared.program.Program.{Program}
 use Rattle.c_kernel.specs.declared.program.Stmt.{Stmt}
-use Rattle.c_meaning.specs.declared.seat.Phase.TheVariants.{Before}
-use Rattle.c_meaning.specs.declared.value.Variables.{Variables}
-use Rattle.c_meaning.specs.Memory.{Memory, empty, number, enter}
-use Rattle.c_meaning.specs.Value.{Meaning, meaning_node, narrowed, value_of}
+use Rattle.mpi_effects.specs.declared.seat.Phase.TheVariants.{Before}
+use Rattle.c_values.specs.declared.value.Variables.{Variables}
+use Rattle.c_memory.specs.Memory.{Memory, empty, number, enter}
+use Rattle.c_values.specs.Value.{Meaning, meaning_node, narrowed, value_of}
 use Rattle.c_meaning.specs.State.{Body}
 use Rattle.c_meaning.specs.State as state
 use Rattle.c_meaning.specs.Step.{body_of, lengths_of, seat_of, start}

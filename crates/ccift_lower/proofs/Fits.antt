@@ -2,8 +2,7 @@
 use Rattle.std.proofs.Common.{◌≡◌, ℕ, zero, suc, ◌+◌, ◌<◌, ◌≤◌, List, [], ◌∷◌, Option, Some, None, Bool, true, false, ◌&&◌, refl, sym, ap, ◌∙◌, subst, arith}
 use Rattle.std.specs.Prelude.{nat_lt, if◌then◌else◌}
 use Rattle.std.proofs.lemmas.Bool.Decides.{nat_tests}
-use Rattle.c_meaning.specs.Memory.{Memory, asked_with, may_refuse}
-use Rattle.c_meaning.specs.Step.{is_refused}
+use Rattle.c_memory.specs.Memory.{Memory, asked_with, may_refuse, is_refused}
 use Rattle.flat_code.specs.Placed.{Block, first_fit, none_fits}
 
 -- all end at a place or below it

@@ -6,13 +6,13 @@ use Rattle.mpi_words.specs.declared.operation.Reply.{Reply}
 use Rattle.mpi_words.specs.declared.operation.Reply.TheVariants as reply
 use Rattle.mpi_words.specs.declared.message.Message.{Message}
 use Rattle.c_kernel.specs.declared.program.Function.{Function}
-use Rattle.c_meaning.specs.declared.requests.Request.{Request}
-use Rattle.c_meaning.specs.declared.requests.Receipt.{Receipt}
-use Rattle.c_meaning.specs.Memory.{Memory}
-use Rattle.c_meaning.specs.Mpi.{received}
+use Rattle.mpi_effects.specs.declared.requests.Request.{Request}
+use Rattle.mpi_effects.specs.declared.requests.Receipt.{Receipt}
+use Rattle.c_memory.specs.Memory.{Memory}
+use Rattle.mpi_effects.specs.Mpi.{received}
 use Rattle.c_meaning.specs.State.{State}
 use Rattle.c_meaning.specs.State as state
-use Rattle.c_meaning.specs.Step.{receipt_of, bytes_asked}
+use Rattle.mpi_effects.specs.Requests.{receipt_of, bytes_asked}
 use Rattle.c_meaning.specs.Step as source
 use Rattle.flat_code.specs.declared.code.FlatFunction.{FlatFunction}
 use Rattle.flat_code.specs.Machine.{Frame, Machine, Outcome, Goes, Asks, Ends, step, answered}

@@ -16,18 +16,19 @@ use Rattle.c_kernel.specs.declared.program.Target.{Target}
 use Rattle.c_kernel.specs.declared.program.Stmt.{Stmt, out-Stmt}
 use Rattle.c_kernel.specs.declared.program.Stmt.TheOpen.{Stmt-F}
 use Rattle.c_kernel.specs.declared.program.Stmt.TheOpen as stmt
-use Rattle.c_meaning.specs.declared.seat.Seat.{Seat}
-use Rattle.c_meaning.specs.declared.seat.Phase.{Phase}
-use Rattle.c_meaning.specs.declared.requests.Request.{Request}
-use Rattle.c_meaning.specs.declared.requests.Receipt.{Receipt}
-use Rattle.c_meaning.specs.declared.value.Variables.{Variables}
-use Rattle.c_meaning.specs.Memory.{Memory, number, store, enter, leave, free, zeroed}
-use Rattle.c_meaning.specs.Value.{Found, is_false, read_of, variable_of, place_of, value_of, values_of}
-use Rattle.c_meaning.specs.Text.{printed}
-use Rattle.c_meaning.specs.Mpi.{Effect, effect, received}
+use Rattle.mpi_effects.specs.declared.seat.Seat.{Seat}
+use Rattle.mpi_effects.specs.declared.seat.Phase.{Phase}
+use Rattle.mpi_effects.specs.declared.requests.Request.{Request}
+use Rattle.mpi_effects.specs.declared.requests.Receipt.{Receipt}
+use Rattle.c_values.specs.declared.value.Variables.{Variables}
+use Rattle.c_memory.specs.Memory.{Memory, number, store, enter, leave, free, zeroed, cells_asked, with_arguments, malloc}
+use Rattle.c_values.specs.Value.{Found, is_false, read_of, variable_of, place_of, value_of, values_of}
+use Rattle.c_values.specs.Text.{printed}
+use Rattle.mpi_effects.specs.Mpi.{Effect, effect, received}
 use Rattle.c_meaning.specs.State.{Item, Body, Rest, Begun, Acting, Awaiting, Testing, Stepping, State, after_loop, to_loop}
 use Rattle.c_meaning.specs.State as state
-use Rattle.c_meaning.specs.Step.{body_of, lengths_of, branch, cells_asked, with_arguments, malloc, receipt_of, bytes_asked, plain_request}
+use Rattle.c_meaning.specs.Step.{body_of, lengths_of, branch}
+use Rattle.mpi_effects.specs.Requests.{receipt_of, bytes_asked, plain_request}
 use Rattle.c_meaning.specs.Step as source
 use Rattle.flat_code.specs.declared.code.FlatFunction.{FlatFunction}
 use Rattle.flat_code.specs.declared.code.Instr.{Instr}

@@ -1,8 +1,8 @@
 -- One instruction of the machine, and what the program does with it.
 use Rattle.std.specs.Prelude.{◌≡◌, ℕ, Bool, false, List, [], ◌∷◌, Option, Some, None}
 use Rattle.c_kernel.specs.declared.program.Function.{Function}
-use Rattle.c_meaning.specs.declared.requests.Request.{Request}
-use Rattle.c_meaning.specs.Memory.{Memory}
+use Rattle.mpi_effects.specs.declared.requests.Request.{Request}
+use Rattle.c_memory.specs.Memory.{Memory}
 use Rattle.c_meaning.specs.State.{Body, State}
 use Rattle.c_meaning.specs.State as state
 use Rattle.c_meaning.specs.Step.{body_of, lengths_of}

@@ -4,7 +4,7 @@ use Rattle.mpi_words.specs.declared.operation.Op.{Op}
 use Rattle.mpi_words.specs.declared.operation.End.{End}
 use Rattle.mpi_words.specs.declared.operation.Reply.{Reply}
 use Rattle.c_kernel.specs.declared.program.Function.{Function}
-use Rattle.c_meaning.specs.Memory.{Memory}
+use Rattle.c_memory.specs.Memory.{Memory}
 use Rattle.c_meaning.specs.State.{State}
 use Rattle.c_meaning.specs.State as state
 use Rattle.c_meaning.specs.Step as source

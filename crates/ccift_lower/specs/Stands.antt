@@ -8,12 +8,12 @@ use Rattle.c_kernel.specs.declared.program.Function.{Function}
 use Rattle.c_kernel.specs.declared.program.Target.{Target}
 use Rattle.c_kernel.specs.declared.program.Stmt.{Stmt, out-Stmt}
 use Rattle.c_kernel.specs.declared.program.Stmt.TheOpen as stmt
-use Rattle.c_meaning.specs.declared.seat.Seat.{Seat}
-use Rattle.c_meaning.specs.declared.seat.Phase.{Phase}
-use Rattle.c_meaning.specs.declared.requests.Request.{Request}
-use Rattle.c_meaning.specs.declared.value.Variables.{Variables}
-use Rattle.c_meaning.specs.Memory.{Memory, number}
-use Rattle.c_meaning.specs.Value.{Found, value_of}
+use Rattle.mpi_effects.specs.declared.seat.Seat.{Seat}
+use Rattle.mpi_effects.specs.declared.seat.Phase.{Phase}
+use Rattle.mpi_effects.specs.declared.requests.Request.{Request}
+use Rattle.c_values.specs.declared.value.Variables.{Variables}
+use Rattle.c_memory.specs.Memory.{Memory, number}
+use Rattle.c_values.specs.Value.{Found, value_of}
 use Rattle.c_meaning.specs.State.{Item, Body, Rest, Begun, Acting, Awaiting, Testing, Stepping, State}
 use Rattle.c_meaning.specs.State as state
 use Rattle.c_meaning.specs.Step.{branch}

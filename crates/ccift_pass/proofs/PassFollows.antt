@@ -6,16 +6,16 @@ use Rattle.mpi_words.specs.declared.operation.Reply.{Reply}
 use Rattle.mpi_words.specs.declared.operation.Reply.TheVariants as reply
 use Rattle.mpi_words.specs.declared.message.Message.{Message}
 use Rattle.c_kernel.specs.declared.program.Program.{Program}
-use Rattle.c_meaning.specs.declared.requests.Request.{Request}
-use Rattle.c_meaning.specs.declared.requests.Receipt.{Receipt}
-use Rattle.c_meaning.specs.declared.seat.Seat.{Seat}
-use Rattle.c_meaning.specs.declared.seat.Phase.{Phase}
-use Rattle.c_meaning.specs.declared.seat.Phase.TheVariants.{Before}
-use Rattle.c_meaning.specs.declared.value.Variables.{Variables}
-use Rattle.c_meaning.specs.Memory.{Memory, empty, enter}
-use Rattle.c_meaning.specs.Mpi.{received}
+use Rattle.mpi_effects.specs.declared.requests.Request.{Request}
+use Rattle.mpi_effects.specs.declared.requests.Receipt.{Receipt}
+use Rattle.mpi_effects.specs.declared.seat.Seat.{Seat}
+use Rattle.mpi_effects.specs.declared.seat.Phase.{Phase}
+use Rattle.mpi_effects.specs.declared.seat.Phase.TheVariants.{Before}
+use Rattle.c_values.specs.declared.value.Variables.{Variables}
+use Rattle.c_memory.specs.Memory.{Memory, empty, enter}
+use Rattle.mpi_effects.specs.Mpi.{received}
 use Rattle.c_meaning.specs.State.{State}
-use Rattle.c_meaning.specs.Step.{receipt_of, bytes_asked}
+use Rattle.mpi_effects.specs.Requests.{receipt_of, bytes_asked}
 use Rattle.c_meaning.specs.Step as source
 use Rattle.flat_code.specs.declared.code.Code.{Code}
 use Rattle.flat_code.specs.declared.code.FlatFunction.{FlatFunction}

@@ -6,15 +6,15 @@ use Rattle.mpi_words.specs.declared.operation.Op.TheVariants as op
 use Rattle.c_kernel.specs.declared.program.Expr.{Expr}
 use Rattle.c_kernel.specs.declared.program.Place.{Place}
 use Rattle.c_kernel.specs.declared.program.Target.{Target}
-use Rattle.c_meaning.specs.declared.requests.Request.{Request}
-use Rattle.c_meaning.specs.declared.seat.Seat.{Seat}
-use Rattle.c_meaning.specs.declared.seat.Phase.{Phase}
-use Rattle.c_meaning.specs.declared.value.Variables.{Variables}
-use Rattle.c_meaning.specs.Memory.{Memory, number, store, enter, leave, free, zeroed}
-use Rattle.c_meaning.specs.Value.{is_false, read_of, variable_of, place_of, value_of, values_of}
-use Rattle.c_meaning.specs.Text.{printed}
-use Rattle.c_meaning.specs.Mpi.{Effect, effect}
-use Rattle.c_meaning.specs.Step.{cells_asked, with_arguments, malloc, plain_request}
+use Rattle.mpi_effects.specs.declared.requests.Request.{Request}
+use Rattle.mpi_effects.specs.declared.seat.Seat.{Seat}
+use Rattle.mpi_effects.specs.declared.seat.Phase.{Phase}
+use Rattle.c_values.specs.declared.value.Variables.{Variables}
+use Rattle.c_memory.specs.Memory.{Memory, number, store, enter, leave, free, zeroed, cells_asked, with_arguments, malloc}
+use Rattle.c_values.specs.Value.{is_false, read_of, variable_of, place_of, value_of, values_of}
+use Rattle.c_values.specs.Text.{printed}
+use Rattle.mpi_effects.specs.Mpi.{Effect, effect}
+use Rattle.mpi_effects.specs.Requests.{plain_request}
 use Rattle.flat_code.specs.declared.code.FlatFunction.{FlatFunction}
 use Rattle.flat_code.specs.declared.code.Instr.{Instr}
 use Rattle.flat_code.specs.declared.code.Instr.TheVariants.{Step, Zero, Set, Call, Malloc, Free, Goto, Unless, Return, Mark, Push, Pop, Leave, Enter, Print, Mpi}

@@ -8,9 +8,9 @@ use Rattle.mpi_words.specs.declared.operation.Op.{Op}
 use Rattle.mpi_words.specs.declared.operation.Op.TheVariants as op
 use Rattle.mpi_words.specs.declared.operation.End.TheVariants.{Exit, Fault}
 use Rattle.mpi_queues.specs.Pairs.{Queues}
-use Rattle.c_meaning.specs.declared.requests.Request.{Request}
-use Rattle.c_meaning.specs.declared.seat.Phase.TheVariants.{Inside}
-use Rattle.c_meaning.specs.Memory.{number}
+use Rattle.mpi_effects.specs.declared.requests.Request.{Request}
+use Rattle.mpi_effects.specs.declared.seat.Phase.TheVariants.{Inside}
+use Rattle.c_memory.specs.Memory.{number}
 use Rattle.c_meaning.specs.State.{State}
 use Rattle.plain_job.specs.Job.{Runs, Ended, Rank, Job, step_of, move}
 use Rattle.plain_job.specs.Turn.{lowest, has_step}

@@ -7,8 +7,8 @@ use Rattle.mpi_words.specs.declared.operation.Op.{Op}
 use Rattle.mpi_words.specs.declared.operation.Op.TheVariants as op
 use Rattle.mpi_queues.specs.Pairs.{Received}
 use Rattle.c_kernel.specs.declared.program.Function.{Function}
-use Rattle.c_meaning.specs.declared.requests.Request.{Request}
-use Rattle.c_meaning.specs.Memory.{is_full}
+use Rattle.mpi_effects.specs.declared.requests.Request.{Request}
+use Rattle.c_memory.specs.Memory.{is_full}
 use Rattle.c_meaning.specs.State.{State, Asks}
 use Rattle.c_meaning.specs.Step.{step_in, begins_in}
 use Rattle.plain_job.specs.Job.{Standing, Runs, Ended, Rank, Job, outcome, with_rank, receives, wanted, operates, after, stepped}

@@ -5,8 +5,8 @@ use Rattle.std.proofs.lemmas.List.{length-set, get_or-set_same, set-set}
 use Rattle.std.proofs.lemmas.Option.{slice_get-get_or}
 use Rattle.mpi_queues.specs.Pairs.{Queues}
 use Rattle.c_kernel.specs.declared.program.Function.{Function}
-use Rattle.c_meaning.specs.declared.requests.Request.{Request}
-use Rattle.c_meaning.specs.Memory.{Memory, is_full}
+use Rattle.mpi_effects.specs.declared.requests.Request.{Request}
+use Rattle.c_memory.specs.Memory.{Memory, is_full}
 use Rattle.c_meaning.specs.Rank.{state_of}
 use Rattle.c_meaning.specs.State.{Item, Body, Rest, Begun, Acting, Awaiting, Testing, Stepping, State, Outcome, Goes, Asks, Ends}
 use Rattle.c_meaning.specs.State as state

@@ -7,14 +7,13 @@ use Rattle.mpi_words.specs.declared.message.Datatype.{Datatype}
 use Rattle.mpi_words.specs.declared.message.Message.{Message}
 use Rattle.c_kernel.specs.declared.program.MpiFunction.{MpiFunction}
 use Rattle.c_kernel.specs.declared.program.MpiFunction.TheVariants as function
-use Rattle.c_meaning.specs.declared.spot.Spot.{Spot}
-use Rattle.c_meaning.specs.declared.seat.Seat.{Seat}
-use Rattle.c_meaning.specs.declared.seat.Phase.{Phase}
-use Rattle.c_meaning.specs.declared.requests.Receipt.{Receipt}
-use Rattle.c_meaning.specs.Memory.{Memory, number, spot_of, map_ok, load, load_all, put_by, put, put_all, store, find_object, add_variable, add_variables, total, used, enter, null, pointer, grant, refuse, is_start, frees, free}
-use Rattle.c_meaning.specs.Mpi.{Effect, require, leaves, requests, writes, status_cells, tested_status, put_status, no_message, receiving, sending, is_count, is_destination, is_source, is_tag, is_proc_null, send, waits, receive, received, counted, get_count, argument, called, is_due, effect, same_datatype, code_of, status_word}
-use Rattle.c_meaning.specs.Value.{then_with, is_zero}
-use Rattle.c_meaning.specs.Step.{with_arguments, is_refused, malloc}
+use Rattle.c_memory.specs.declared.spot.Spot.{Spot}
+use Rattle.mpi_effects.specs.declared.seat.Seat.{Seat}
+use Rattle.mpi_effects.specs.declared.seat.Phase.{Phase}
+use Rattle.mpi_effects.specs.declared.requests.Receipt.{Receipt}
+use Rattle.c_memory.specs.Memory.{Memory, number, spot_of, map_ok, load, load_all, put_by, put, put_all, store, find_object, add_variable, add_variables, total, used, enter, null, pointer, grant, refuse, is_start, frees, free, with_arguments, is_refused, malloc}
+use Rattle.mpi_effects.specs.Mpi.{Effect, require, leaves, requests, writes, status_cells, tested_status, put_status, no_message, receiving, sending, is_count, is_destination, is_source, is_tag, is_proc_null, send, waits, receive, received, counted, get_count, argument, called, is_due, effect, same_datatype, code_of, status_word}
+use Rattle.c_values.specs.Value.{then_with, is_zero}
 
 -- ---- writes
 

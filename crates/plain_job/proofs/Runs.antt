@@ -9,7 +9,7 @@ use Rattle.mpi_queues.specs.Laws.{TakesLowest}
 use Rattle.mpi_queues.proofs.Lowest.{is_lowest}
 use Rattle.c_kernel.specs.declared.program.Function.{Function}
 use Rattle.c_kernel.specs.declared.program.Program.{Program}
-use Rattle.c_meaning.specs.Memory.{is_full}
+use Rattle.c_memory.specs.Memory.{is_full}
 use Rattle.c_meaning.specs.State.{State, Outcome, Goes, Asks, Ends}
 use Rattle.c_meaning.proofs.Choices.{one_choice}
 use Rattle.plain_job.specs.Job.{Standing, Runs, Ended, Rank, Job, Move, choice_of, outcome, receives, operates, after, stepped, start_job, move, run, IsReached}

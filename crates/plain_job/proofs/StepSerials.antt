@@ -22,19 +22,20 @@ use Rattle.c_kernel.specs.declared.program.Program.{Program}
 use Rattle.c_kernel.specs.declared.program.Stmt.{Stmt, out-Stmt}
 use Rattle.c_kernel.specs.declared.program.Stmt.TheOpen.{Stmt-F}
 use Rattle.c_kernel.specs.declared.program.Stmt.TheOpen as stmt
-use Rattle.c_meaning.specs.declared.seat.Phase.TheVariants.{Before}
-use Rattle.c_meaning.specs.declared.requests.Request.{Request}
-use Rattle.c_meaning.specs.declared.requests.Receipt.{Receipt}
-use Rattle.c_meaning.specs.declared.value.Variables.{Variables}
+use Rattle.mpi_effects.specs.declared.seat.Phase.TheVariants.{Before}
+use Rattle.mpi_effects.specs.declared.requests.Request.{Request}
+use Rattle.mpi_effects.specs.declared.requests.Receipt.{Receipt}
+use Rattle.c_values.specs.declared.value.Variables.{Variables}
 use Rattle.mpi_words.specs.declared.operation.Reply.{Reply}
 use Rattle.mpi_words.specs.declared.operation.Reply.TheVariants as reply
-use Rattle.c_meaning.specs.Memory.{Memory, empty, number, total, enter, store, zeroed, free, leave}
-use Rattle.c_meaning.specs.Mpi.{Effect, effect, received}
-use Rattle.c_meaning.specs.Text.{printed}
-use Rattle.c_meaning.specs.Value.{is_false, read_of, variable_of, place_of, value_of, values_of}
+use Rattle.c_memory.specs.Memory.{Memory, empty, number, total, enter, store, zeroed, free, leave, cells_asked, malloc, with_arguments}
+use Rattle.mpi_effects.specs.Mpi.{Effect, effect, received}
+use Rattle.c_values.specs.Text.{printed}
+use Rattle.c_values.specs.Value.{is_false, read_of, variable_of, place_of, value_of, values_of}
 use Rattle.c_meaning.specs.State.{Item, Body, Rest, Begun, Acting, Awaiting, Testing, Stepping, State, Outcome, Goes, Asks, Ends, after_loop, to_loop}
 use Rattle.c_meaning.specs.State as state
-use Rattle.c_meaning.specs.Step.{body_of, lengths_of, with_ok, goes_to, goes_with, asks, call_of, enters, stores, awaited, comes_back, returned, cells_asked, malloc, allocates, acts, branch, prints, comes_to, calls_mpi, does, turns, tests, steps, goes_on, step_in, with_arguments, begins_first, begins_in, begins, step, finished, taken_in, receipt_of, answered, seat_of, start}
+use Rattle.c_meaning.specs.Step.{body_of, lengths_of, with_ok, goes_to, goes_with, asks, call_of, enters, stores, awaited, comes_back, returned, allocates, acts, branch, prints, comes_to, calls_mpi, does, turns, tests, steps, goes_on, step_in, begins_first, begins_in, begins, step, finished, taken_in, answered, seat_of, start}
+use Rattle.mpi_effects.specs.Requests.{receipt_of}
 use Rattle.plain_job.specs.Job.{standing_of}
 use Rattle.plain_job.specs.Serials.{AreRegularItems, Fit, pending, pending_in, kept, kept_in, IsWithin, StaysWithin}
 use Rattle.plain_job.proofs.RegularParts.{and_left, and_right, AllRegular, IsFull, ArmsRegular, HasParts, parts_of}

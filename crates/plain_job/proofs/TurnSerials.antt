@@ -10,7 +10,7 @@ use Rattle.mpi_words.specs.declared.operation.Reply.TheVariants.{Done, Got}
 use Rattle.mpi_queues.specs.Pairs.{Received}
 use Rattle.c_kernel.specs.Regular.{AreRegular}
 use Rattle.c_kernel.specs.declared.program.Function.{Function}
-use Rattle.c_meaning.specs.Memory.{is_full}
+use Rattle.c_memory.specs.Memory.{is_full}
 use Rattle.c_meaning.specs.State.{State, Outcome, Goes, Asks, Ends}
 use Rattle.plain_job.specs.Job.{Standing, Runs, Ended, Rank, Job, Choice, outcome, completed, with_rank, receives, wanted, operates, after, stepped}
 use Rattle.plain_job.specs.Serials.{IsWithin, StaysWithin}

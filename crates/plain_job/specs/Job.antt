@@ -10,7 +10,7 @@ use Rattle.mpi_words.specs.declared.pattern.Pattern.{Pattern}
 use Rattle.mpi_queues.specs.Pairs.{Queues, none_sent, sent, Received, taken_from}
 use Rattle.c_kernel.specs.declared.program.Function.{Function}
 use Rattle.c_kernel.specs.declared.program.Program.{Program}
-use Rattle.c_meaning.specs.Memory.{Memory}
+use Rattle.c_memory.specs.Memory.{Memory}
 use Rattle.c_meaning.specs.State.{State, Outcome, Goes, Asks, Ends}
 use Rattle.c_meaning.specs.Step.{start, step, answered}
 

@@ -4,9 +4,9 @@ use Rattle.mpi_words.specs.declared.operation.Op.{Op}
 use Rattle.mpi_words.specs.declared.operation.Op.TheVariants as op
 use Rattle.mpi_queues.specs.Pairs.{taken}
 use Rattle.c_kernel.specs.declared.program.Function.{Function}
-use Rattle.c_meaning.specs.declared.requests.Request.{Request}
+use Rattle.mpi_effects.specs.declared.requests.Request.{Request}
 use Rattle.c_meaning.specs.State.{Outcome, Goes, Asks, Ends}
-use Rattle.c_meaning.specs.Memory.{is_full}
+use Rattle.c_memory.specs.Memory.{is_full}
 use Rattle.c_meaning.specs.Step.{begins}
 use Rattle.plain_job.specs.Job.{Standing, Runs, Ended, Rank, Job, Choice, outcome, stepped, wanted}
 

@@ -1,6 +1,6 @@
 use Rattle.std.proofs.Common.{◌≡◌, Ok, false, ap, sym, ◌∙◌, get_or}
 use Rattle.c_meaning.specs.Level.{branch_of}
-use Rattle.c_meaning.specs.Value.{value_of, is_false}
+use Rattle.c_values.specs.Value.{value_of, is_false}
 use Rattle.c_meaning.proofs.Begins.{arm_taken, none_taken}
 use Rattle.c_meaning.proofs.choice.chosen.Goals as goal
 

@@ -1,6 +1,6 @@
 use Rattle.std.proofs.Common.{◌<◌, length, ap, ◌∙◌, arith}
 use Rattle.std.proofs.lemmas.Result.{IfOk-weaker}
-use Rattle.c_meaning.specs.Memory.{is_full}
+use Rattle.c_memory.specs.Memory.{is_full}
 use Rattle.c_meaning.specs.Running.{todo, block_of, call_of, below, state_of}
 use Rattle.c_meaning.proofs.Begins.{begun}
 use Rattle.c_meaning.proofs.running.Running.begin.Goals as goal

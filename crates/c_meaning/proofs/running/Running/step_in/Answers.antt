@@ -1,6 +1,6 @@
 use Rattle.std.proofs.Common.{ap, ◌∙◌}
 use Rattle.std.proofs.lemmas.Result.{IfOk-weaker}
-use Rattle.c_meaning.specs.Memory.{is_full}
+use Rattle.c_memory.specs.Memory.{is_full}
 use Rattle.c_meaning.specs.Step.{body_of}
 use Rattle.c_meaning.specs.Running.{todo_of, call_of, calls_of, state_of}
 use Rattle.c_meaning.proofs.Follows.{items_more, calls_more}

@@ -1,6 +1,0 @@
-use Rattle.c_meaning.specs.Seen.{serial_of}
-use Rattle.c_meaning.proofs.Finds.{rising_wide}
-use Rattle.c_meaning.proofs.memory.Memory.zero.Goals as goal
-
-pub zero-requires : goal.zero-requires
-zero-requires c = rising_wide serial_of _ _ c.self.invariant.variables c.self.invariant.next

@@ -1,6 +1,0 @@
-use Rattle.std.proofs.Common.{◌≡◌, ◌+◌, ◌≤◌, take}
-use Rattle.c_meaning.specs.Memory.{total}
-use Rattle.c_meaning.proofs.memory.is_over.Given as goal
-
-abbrev pub invariant-loop-n : goal.invariant-loop-n
-invariant-loop-n l = (l.sum ≡ l.from + total (take l.n-index l.lengths)) × (l.sum ≤ 8193)

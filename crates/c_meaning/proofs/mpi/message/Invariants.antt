@@ -1,7 +1,0 @@
-use Rattle.std.proofs.Common.{◌≡◌, map, take}
-use Rattle.c_kernel.specs.Elements.{element_type}
-use Rattle.c_meaning.specs.Value.{narrowed}
-use Rattle.c_meaning.proofs.mpi.message.Given as goal
-
-abbrev pub invariant-loop-c : goal.invariant-loop-c
-invariant-loop-c l = l.items ≡ map (λ c. narrowed (element_type l.kind) c.word) (take l.c-index l.cells)

@@ -1,7 +1,0 @@
-use Rattle.std.proofs.Common.{◌≡◌, take}
-use Rattle.c_meaning.specs.Seen.{objects_of}
-use Rattle.c_meaning.specs.Memory.{cells_in}
-use Rattle.c_meaning.proofs.object.total_cells.Given as goal
-
-abbrev pub invariant-loop-o : goal.invariant-loop-o
-invariant-loop-o l = l.n ≡ cells_in (objects_of (take l.o-index l.objects))

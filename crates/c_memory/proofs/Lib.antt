@@ -1,0 +1,6 @@
+pub mod Places
+pub mod Finds
+pub mod Enters
+pub mod Refusals
+pub mod Writes
+pub mod ObjectExamples

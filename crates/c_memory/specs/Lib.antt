@@ -1,0 +1,5 @@
+pub mod Memory
+pub mod Written
+pub mod Order
+pub mod Seen
+pub mod Kept
