@@ -24,6 +24,7 @@ use Rattle.mpi_effects.specs.declared.requests.Receipt.{Receipt}
 use Rattle.c_values.specs.declared.value.Variables.{Variables}
 use Rattle.c_memory.specs.Memory.{Memory, empty, number, store, zeroed, enter, leave, with_arguments, cells_asked, malloc, free}
 use Rattle.c_values.specs.Value.{is_false, narrowed, read_of, variable_of, place_of, value_of, values_of}
+use Rattle.c_values.specs.Variables.{variables_from}
 use Rattle.c_values.specs.Text.{printed}
 use Rattle.mpi_effects.specs.Requests.{plain_request, bytes_asked, receipt_of}
 use Rattle.mpi_effects.specs.Mpi.{Effect, effect, received}
@@ -64,7 +65,7 @@ asks s top below todo q = Asks q.operation (record s { calls = record top { todo
 abbrev pub call_of : List Function → ℕ → ℕ → state.Call
 call_of functions f first = record {
   todo = Body (body_of functions f) ∷ [];
-  variables = record { first = first; count = length (lengths_of functions f) };
+  variables = variables_from first (length (lengths_of functions f));
 }
 
 -- a function is entered, above these calls

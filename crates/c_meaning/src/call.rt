@@ -93,7 +93,7 @@ fn frame(alloc: Global, function: usize, first: u64, count: usize) -> Result<Fra
     let levels = first_levels(alloc)?;
     Ok(Frame {
         function,
-        variables: Variables { first, count },
+        variables: Variables::from(first, count),
         levels,
     })
 }

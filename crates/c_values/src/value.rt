@@ -1,6 +1,6 @@
 //! The value of an expression.
 
-ghost use Rattle.std.specs.Prelude.{◌≡◌, ◌+◌, ◌<◌, ◌^◌, IfOk, Ok, map};
+ghost use Rattle.std.specs.Prelude.{◌≡◌, ◌+◌, ◌<◌, ◌≤◌, ◌^◌, IfOk, Ok, map};
 ghost use Rattle.c_memory.specs.Memory.{map_ok};
 ghost use Rattle.c_values.specs.Value.{read_of, load_of, converted, compare_of, and_of, or_of, chained, link_of, variable_of, root_of, root_meaning, step_meaning, place_of, value_of, values_of};
 ghost use Rattle.c_values.specs.Value as spec;
@@ -25,7 +25,8 @@ pub struct Variables {
 impl Variables {
     /// So many variables, of which the first has this serial.
     pub fn from(first: u64, count: usize) -> Variables
-        ensures { result ≡ variables_from first count }
+        ensures variables { result ≡ variables_from first count }
+        ensures within { result.first ≤ first }
     {
         Variables {
             first: if count == 0 { 0 } else { first },

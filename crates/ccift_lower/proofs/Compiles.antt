@@ -16,6 +16,7 @@ use Rattle.c_kernel.specs.declared.program.Function.{Function}
 use Rattle.c_kernel.specs.declared.program.Program.{Program}
 use Rattle.c_kernel.specs.declared.program.Stmt.{Stmt}
 use Rattle.mpi_effects.specs.declared.seat.Phase.TheVariants.{Before}
+use Rattle.c_values.specs.Variables.{variables_from}
 use Rattle.c_values.specs.declared.value.Variables.{Variables}
 use Rattle.c_memory.specs.Memory.{Memory, empty, number, enter}
 use Rattle.c_values.specs.Value.{Meaning, meaning_node, narrowed, value_of}
@@ -95,20 +96,20 @@ compiled functions = record { lengths = lengths functions; bodies = bodies funct
 start_by : (p : Program) (rank ranks : ℕ) (entered : Result Memory ℕ) → StandsFor (map lowered_function p.functions)
     (elim entered [
       | Err code ↦ record { calls = []; memory = empty; seat = seat_of p rank ranks; phase = Before; printed = 0; asked = None }
-      | Ok m ↦ record { calls = record { todo = Body (body_of p.functions p.main) ∷ []; variables = record { first = 1; count = length (lengths_of p.functions p.main) } } ∷ []; memory = m; seat = seat_of p rank ranks; phase = Before; printed = 0; asked = None }
+      | Ok m ↦ record { calls = record { todo = Body (body_of p.functions p.main) ∷ []; variables = variables_from 1 (length (lengths_of p.functions p.main)) } ∷ []; memory = m; seat = seat_of p rank ranks; phase = Before; printed = 0; asked = None }
     ])
     (elim entered [
       | Err code ↦ record { frames = []; sites = []; described = []; memory = empty; seat = seat_of p rank ranks; phase = Before; printed = 0; asked = None }
-      | Ok m ↦ record { frames = record { function = p.main; place = 0; variables = record { first = 1; count = length (lengths_of p.functions p.main) } } ∷ []; sites = []; described = []; memory = m; seat = seat_of p rank ranks; phase = Before; printed = 0; asked = None }
+      | Ok m ↦ record { frames = record { function = p.main; place = 0; variables = variables_from 1 (length (lengths_of p.functions p.main)) } ∷ []; sites = []; described = []; memory = m; seat = seat_of p rank ranks; phase = Before; printed = 0; asked = None }
     ])
 start_by p rank ranks (Err code) = nowhere (record { sites = []; described = []; memory = empty; seat = seat_of p rank ranks; phase = Before; printed = 0; asked = None })
 start_by p rank ranks (Ok m) =
     let b = bodies p.functions p.main in
-    stands (record { sites = []; described = []; memory = m; seat = seat_of p rank ranks; phase = Before; printed = 0; asked = None }) (Body (body_of p.functions p.main) ∷ []) p.main 0 b.0 b.1 (record { first = 1; count = length (lengths_of p.functions p.main) }) [] [] b.2 none
+    stands (record { sites = []; described = []; memory = m; seat = seat_of p rank ranks; phase = Before; printed = 0; asked = None }) (Body (body_of p.functions p.main) ∷ []) p.main 0 b.0 b.1 (variables_from 1 (length (lengths_of p.functions p.main))) [] [] b.2 none
 
 pub starts : (p : Program) (rank ranks : ℕ) → StandsFor (lowered p).functions (start p rank ranks) (machine.start (lowered p) rank ranks)
 starts p rank ranks =
     subst (λ lengths. StandsFor (map lowered_function p.functions) (start p rank ranks) (elim (enter empty lengths) [
       | Err code ↦ record { frames = []; sites = []; described = []; memory = empty; seat = seat_of p rank ranks; phase = Before; printed = 0; asked = None }
-      | Ok m ↦ record { frames = record { function = p.main; place = 0; variables = record { first = 1; count = length lengths } } ∷ []; sites = []; described = []; memory = m; seat = seat_of p rank ranks; phase = Before; printed = 0; asked = None }
+      | Ok m ↦ record { frames = record { function = p.main; place = 0; variables = variables_from 1 (length lengths) } ∷ []; sites = []; described = []; memory = m; seat = seat_of p rank ranks; phase = Before; printed = 0; asked = None }
     ])) (lengths p.functions p.main) (start_by p rank ranks (enter empty (lengths_of p.functions p.main)))

@@ -17,6 +17,7 @@ use Rattle.c_kernel.specs.declared.program.Stmt.{Stmt, out-Stmt}
 use Rattle.c_kernel.specs.declared.program.Stmt.TheOpen.{Stmt-F}
 use Rattle.c_kernel.specs.declared.program.Stmt.TheOpen as stmt
 use Rattle.mpi_effects.specs.declared.seat.Seat.{Seat}
+use Rattle.c_values.specs.Variables.{variables_from}
 use Rattle.mpi_effects.specs.declared.seat.Phase.{Phase}
 use Rattle.mpi_effects.specs.declared.requests.Request.{Request}
 use Rattle.mpi_effects.specs.declared.requests.Receipt.{Receipt}
@@ -128,12 +129,12 @@ both_entered : (functions : List Function) (code : List FlatFunction) (is : Comp
     Both code (source.enters functions (state_in w others) calls g vs) (machine.enters code (machine_in w more) frames g vs)
 both_entered functions code is w others more calls frames g vs below =
     subst (λ lengths. Both code (source.enters functions (state_in w others) calls g vs) (machine.with_ok (enter w.memory lengths) (λ memory. Goes false (record (machine_in w more) {
-      frames = record { function = g; place = 0; variables = record { first = w.memory.next; count = length lengths } } ∷ frames;
+      frames = record { function = g; place = 0; variables = variables_from w.memory.next (length lengths) } ∷ frames;
       memory = with_arguments memory w.memory.next vs;
     })))) (is.lengths g)
     (both_ok code (enter w.memory (lengths_of functions g)) _ _ (λ m.
     let b = is.bodies g in
-    (refl, stands (record w { memory = with_arguments m w.memory.next vs }) (Body (body_of functions g) ∷ []) g 0 b.0 b.1 (record { first = w.memory.next; count = length (lengths_of functions g) }) calls frames b.2 below)))
+    (refl, stands (record w { memory = with_arguments m w.memory.next vs }) (Body (body_of functions g) ∷ []) g 0 b.0 b.1 (variables_from w.memory.next (length (lengths_of functions g))) calls frames b.2 below)))
 
 -- a step of the program's own
 after : (functions : List Function) (code : List FlatFunction) (r : Memory → ℕ → Bool) (s t : State) (m : Machine) → ((refuses : Memory → ℕ → Bool) → source.step functions refuses s ≡ state.Goes false t) → Followed functions code r t m → Followed functions code r s m

@@ -7,6 +7,7 @@ use Rattle.mpi_words.specs.declared.operation.Reply.TheVariants as reply
 use Rattle.mpi_words.specs.declared.message.Message.{Message}
 use Rattle.c_kernel.specs.declared.program.Program.{Program}
 use Rattle.mpi_effects.specs.declared.requests.Request.{Request}
+use Rattle.c_values.specs.Variables.{variables_from}
 use Rattle.mpi_effects.specs.declared.requests.Receipt.{Receipt}
 use Rattle.mpi_effects.specs.declared.seat.Seat.{Seat}
 use Rattle.mpi_effects.specs.declared.seat.Phase.{Phase}
@@ -167,9 +168,9 @@ pass_starts : (c : Code) (rank ranks : ℕ) → Passes c.functions (passed c).fu
 pass_starts c rank ranks is =
     subst (λ lengths. PassedTo c.functions (passed c).functions (start c rank ranks) (elim (enter empty lengths) [
       | Err code ↦ record { frames = []; sites = []; described = []; memory = empty; seat = seat_of c rank ranks; phase = Before; printed = 0; asked = None }
-      | Ok m ↦ record { frames = record { function = c.main; place = 0; variables = record { first = 1; count = length lengths } } ∷ []; sites = []; described = []; memory = m; seat = seat_of c rank ranks; phase = Before; printed = 0; asked = None }
+      | Ok m ↦ record { frames = record { function = c.main; place = 0; variables = variables_from 1 (length lengths) } ∷ []; sites = []; described = []; memory = m; seat = seat_of c rank ranks; phase = Before; printed = 0; asked = None }
     ])) (is.lengths c.main)
-    (start_by c.functions (passed c).functions is c.main (seat_of c rank ranks) (enter empty (lengths_in c.functions c.main)) (record { first = 1; count = length (lengths_in c.functions c.main) }))
+    (start_by c.functions (passed c).functions is c.main (seat_of c rank ranks) (enter empty (lengths_in c.functions c.main)) (variables_from 1 (length (lengths_in c.functions c.main))))
 
 -- what the job runs, and how it ends, and the program
 pub passed_finishes : (p : Program) (rank ranks : ℕ) (n : Machine) (asked last : List (Op × Reply)) (end : End) → Ran (passed (lowered p)).functions (start (passed (lowered p)) rank ranks) asked n → Finished (passed (lowered p)).functions n last end →

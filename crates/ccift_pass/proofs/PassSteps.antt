@@ -9,6 +9,7 @@ use Rattle.c_kernel.specs.declared.program.Target.{Target}
 use Rattle.mpi_effects.specs.declared.requests.Request.{Request}
 use Rattle.mpi_effects.specs.declared.seat.Seat.{Seat}
 use Rattle.mpi_effects.specs.declared.seat.Phase.{Phase}
+use Rattle.c_values.specs.Variables.{variables_from}
 use Rattle.c_values.specs.declared.value.Variables.{Variables}
 use Rattle.c_memory.specs.Memory.{Memory, number, store, enter, leave, free, zeroed, cells_asked, with_arguments, malloc}
 use Rattle.c_values.specs.Value.{is_false, read_of, variable_of, place_of, value_of, values_of}
@@ -88,16 +89,16 @@ agree_entered : (code passed : List FlatFunction) (is : Passes code passed) (w :
     Agree (PassedTo code passed) (enters code (machine_in w a) frames g vs) (enters passed (machine_in (on w sites described) b) others g vs)
 agree_entered code passed is w a b frames others sites described g vs pairs =
     subst (λ lengths. Agree (PassedTo code passed) (enters code (machine_in w a) frames g vs) (with_ok (enter w.memory lengths) (λ memory. Goes false (record (machine_in (on w sites described) b) {
-      frames = record { function = g; place = 0; variables = record { first = w.memory.next; count = length lengths } } ∷ others;
+      frames = record { function = g; place = 0; variables = variables_from w.memory.next (length lengths) } ∷ others;
       memory = with_arguments memory w.memory.next vs;
     })))) (is.lengths g)
     (agree_ok (PassedTo code passed) (enter w.memory (lengths_in code g)) _ _ (λ m. (refl, found m (is.moves g))))
   where
     found : (m : Memory) → Moves (code_at code g) (code_at passed g) ⊎ ((code_at code g ≡ missing_code) × (code_at passed g ≡ missing_code)) →
-        PassedTo code passed (machine_in (record w { memory = with_arguments m w.memory.next vs }) (frame g 0 (record { first = w.memory.next; count = length (lengths_in code g) }) ∷ frames))
-        (machine_in (on (record w { memory = with_arguments m w.memory.next vs }) sites described) (frame g 0 (record { first = w.memory.next; count = length (lengths_in code g) }) ∷ others))
-    found m (inl moves) = passes_by (record w { memory = with_arguments m w.memory.next vs }) g 0 0 (record { first = w.memory.next; count = length (lengths_in code g) }) [] [] frames others sites described moves entering pairs
-    found m (inr e) = missing (record w { memory = with_arguments m w.memory.next vs }) g 0 (record { first = w.memory.next; count = length (lengths_in code g) }) frames others sites described e.0 e.1 pairs
+        PassedTo code passed (machine_in (record w { memory = with_arguments m w.memory.next vs }) (frame g 0 (variables_from w.memory.next (length (lengths_in code g))) ∷ frames))
+        (machine_in (on (record w { memory = with_arguments m w.memory.next vs }) sites described) (frame g 0 (variables_from w.memory.next (length (lengths_in code g))) ∷ others))
+    found m (inl moves) = passes_by (record w { memory = with_arguments m w.memory.next vs }) g 0 0 (variables_from w.memory.next (length (lengths_in code g))) [] [] frames others sites described moves entering pairs
+    found m (inr e) = missing (record w { memory = with_arguments m w.memory.next vs }) g 0 (variables_from w.memory.next (length (lengths_in code g))) frames others sites described e.0 e.1 pairs
 
 -- descriptors that are pushed are popped
 drop_descriptors : (first n : ℕ) (described : List ℕ) → drop n (descriptors_from first n ++ described) ≡ described
