@@ -86,7 +86,7 @@ fn initial(
     functions: &IndexMap<Vec<u8>, Signature>,
     structs: &[Struct],
     scope: &Scope,
-    v: Found,
+    v: Boxed<Found>,
     number: usize,
     e: &Option<Expr>,
 ) -> Result<Option<Action>, AllocError>
@@ -124,7 +124,7 @@ fn variable_walk(
     let number = scope.variables.len();
     scope.declare(alloc, d.name.bytes.as_slice(), object.copy(alloc)?)?;
     let whole = Boxed::new(alloc, variable(alloc, number))?;
-    let v = place(d.name.at, object, whole);
+    let v = place(alloc, d.name.at, object, whole)?;
     initial(
         alloc, faults, functions, structs, scope, v, number, &d.value,
     )

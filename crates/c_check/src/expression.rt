@@ -37,7 +37,7 @@ pub fn expression(
     structs: &[Struct],
     scope: &Scope,
     e: &Expr,
-) -> Result<Option<Found>, AllocError>
+) -> Result<Option<Boxed<Found>>, AllocError>
     ensures found { IfOk result (λ found. found ≡ (judged (called functions.now.entries) structs.now (scope_of scope.now) e.now).found) }
     ensures faults { OnOk result (faults.new.items ≡ faults.old.items ++ (judged (called functions.now.entries) structs.now (scope_of scope.now) e.now).faults) }
 {
@@ -100,7 +100,7 @@ fn primary_of(
     structs: &[Struct],
     scope: &Scope,
     p: &Primary<Expr>,
-) -> Result<Option<Found>, AllocError>
+) -> Result<Option<Boxed<Found>>, AllocError>
     ensures found { IfOk result (λ found. found ≡ (walk.judged_primary (called functions.now.entries) structs.now (scope_of scope.now) p.now).found) }
     ensures faults { OnOk result (faults.new.items ≡ faults.old.items ++ (walk.judged_primary (called functions.now.entries) structs.now (scope_of scope.now) p.now).faults) }
 {
@@ -119,7 +119,7 @@ fn primary_of(
         }
         Primary::Group { at, inner } => {
             let a = expression(alloc, faults, functions, structs, scope, inner.get())?;
-            Ok(group(*at, a))
+            group(alloc, *at, a)
         }
     }
 }
@@ -132,9 +132,9 @@ fn suffixed(
     functions: &IndexMap<Vec<u8>, Signature>,
     structs: &[Struct],
     scope: &Scope,
-    a: Option<Found>,
+    a: Option<Boxed<Found>>,
     suffixes: &[Suffix<Expr>],
-) -> Result<Option<Found>, AllocError>
+) -> Result<Option<Boxed<Found>>, AllocError>
     ensures found { IfOk result (λ found. found ≡ (walk.judged_suffixes (called functions.now.entries) structs.now (scope_of scope.now) a suffixes.now).found) }
     ensures faults { OnOk result (faults.new.items ≡ faults.old.items ++ (walk.judged_suffixes (called functions.now.entries) structs.now (scope_of scope.now) a suffixes.now).faults) }
 {
@@ -154,9 +154,9 @@ fn suffix_of(
     functions: &IndexMap<Vec<u8>, Signature>,
     structs: &[Struct],
     scope: &Scope,
-    a: Option<Found>,
+    a: Option<Boxed<Found>>,
     x: &Suffix<Expr>,
-) -> Result<Option<Found>, AllocError>
+) -> Result<Option<Boxed<Found>>, AllocError>
     ensures found { IfOk result (λ found. found ≡ (walk.judged_suffix (called functions.now.entries) structs.now (scope_of scope.now) a x.now).found) }
     ensures faults { OnOk result (faults.new.items ≡ faults.old.items ++ (walk.judged_suffix (called functions.now.entries) structs.now (scope_of scope.now) a x.now).faults) }
 {
@@ -187,7 +187,7 @@ fn no_part(
     scope: &Scope,
     at: u32,
     size: &Expr,
-) -> Result<Option<Found>, AllocError>
+) -> Result<Option<Boxed<Found>>, AllocError>
     ensures found { IfOk result (λ found. found ≡ (walk.no_part (called functions.now.entries) structs.now (scope_of scope.now) at (judged (called functions.now.entries) structs.now (scope_of scope.now) size.now)).found) }
     ensures faults { OnOk result (faults.new.items ≡ faults.old.items ++ (walk.no_part (called functions.now.entries) structs.now (scope_of scope.now) at (judged (called functions.now.entries) structs.now (scope_of scope.now) size.now)).faults) }
 {
@@ -212,7 +212,7 @@ fn whole_cast(
     at: u32,
     name: &TypeName,
     operand: &Expr,
-) -> Result<Option<Found>, AllocError>
+) -> Result<Option<Boxed<Found>>, AllocError>
     ensures found { IfOk result (λ found. found ≡ (walk.whole_cast at (walk.named_type structs.now name.now) (judged (called functions.now.entries) structs.now (scope_of scope.now) operand.now)).found) }
     ensures faults { OnOk result (faults.new.items ≡ faults.old.items ++ (walk.whole_cast at (walk.named_type structs.now name.now) (judged (called functions.now.entries) structs.now (scope_of scope.now) operand.now)).faults) }
 {
@@ -235,7 +235,7 @@ fn whole_chain(
     scope: &Scope,
     first: &Expr,
     rest: &Items<Link<Expr>>,
-) -> Result<Option<Found>, AllocError>
+) -> Result<Option<Boxed<Found>>, AllocError>
     ensures found { IfOk result (λ found. found ≡ (walk.whole_chain structs.now (judged (called functions.now.entries) structs.now (scope_of scope.now) first.now) (walk.judged_links (called functions.now.entries) structs.now (scope_of scope.now) rest.now)).found) }
     ensures faults { OnOk result (faults.new.items ≡ faults.old.items ++ (walk.whole_chain structs.now (judged (called functions.now.entries) structs.now (scope_of scope.now) first.now) (walk.judged_links (called functions.now.entries) structs.now (scope_of scope.now) rest.now)).faults) }
 {
@@ -254,9 +254,9 @@ fn chain(
     functions: &IndexMap<Vec<u8>, Signature>,
     structs: &[Struct],
     scope: &Scope,
-    first: Option<Run>,
+    first: Option<Boxed<Run>>,
     links: &Items<Link<Expr>>,
-) -> Result<Option<Run>, AllocError>
+) -> Result<Option<Boxed<Run>>, AllocError>
     ensures found { IfOk result (λ found. found ≡ (walk.chain structs.now first (walk.judged_links (called functions.now.entries) structs.now (scope_of scope.now) links.now)).found) }
     ensures faults { OnOk result (faults.new.items ≡ faults.old.items ++ (walk.chain structs.now first (walk.judged_links (called functions.now.entries) structs.now (scope_of scope.now) links.now)).faults) }
 {
@@ -278,7 +278,7 @@ pub fn expressions(
     structs: &[Struct],
     scope: &Scope,
     es: &[Expr],
-) -> Result<Option<Items<Found>>, AllocError>
+) -> Result<Option<Items<Boxed<Found>>>, AllocError>
     ensures found { IfOk result (λ found. found ≡ (nodes.together (walk.judged_all (called functions.now.entries) structs.now (scope_of scope.now) es.now)).found) }
     ensures faults { OnOk result (faults.new.items ≡ faults.old.items ++ (nodes.together (walk.judged_all (called functions.now.entries) structs.now (scope_of scope.now) es.now)).faults) }
 {
@@ -301,7 +301,7 @@ fn misplaced(
     scope: &Scope,
     name: &Name,
     arguments: &Items<Expr>,
-) -> Result<Option<Found>, AllocError>
+) -> Result<Option<Boxed<Found>>, AllocError>
     ensures found { IfOk result (λ found. found ≡ (walk.misplaced (called functions.now.entries) structs.now (scope_of scope.now) (walk.call_of (called functions.now.entries) structs.now (scope_of scope.now) name.now.at name.now arguments.now)).found) }
     ensures faults { OnOk result (faults.new.items ≡ faults.old.items ++ (walk.misplaced (called functions.now.entries) structs.now (scope_of scope.now) (walk.call_of (called functions.now.entries) structs.now (scope_of scope.now) name.now.at name.now arguments.now)).faults) }
 {
@@ -375,7 +375,7 @@ fn width(long: bool) -> IntegerType
     }
 }
 
-fn constant_of(alloc: Global, at: u32, word: Constant) -> Result<Found, AllocError>
+fn constant_of(alloc: Global, at: u32, word: Constant) -> Result<Boxed<Found>, AllocError>
     ensures found { IfOk result (λ found. Some found ≡ (rules.constant_word at word).found) }
     ensures faults { (rules.constant_word at word).faults ≡ [] }
 {
@@ -391,14 +391,14 @@ fn name(
     faults: &mut Vec<Fault>,
     scope: &Scope,
     name: &Name,
-) -> Result<Option<Found>, AllocError>
+) -> Result<Option<Boxed<Found>>, AllocError>
     ensures found { IfOk result (λ found. found ≡ (rules.name name.now.at (visible (scope_of scope.now) name.now.bytes)).found) }
     ensures faults { OnOk result (faults.new.items ≡ faults.old.items ++ (rules.name name.now.at (visible (scope_of scope.now) name.now.bytes)).faults) }
 {
     match scope.find(name.bytes.as_slice()) {
         Some(Entity::Variable(v)) => {
             let found = Boxed::new(alloc, variable(alloc, v.number))?;
-            Ok(Some(place(name.at, v.kind.copy(alloc)?, found)))
+            place(alloc, name.at, v.kind.copy(alloc)?, found).map(Some)
         }
         Some(Entity::Parameter(_)) | None => {
             rule(faults, true, Kind::UnknownName, name.at)?;
@@ -407,14 +407,18 @@ fn name(
     }
 }
 
-fn group(at: u32, a: Option<Found>) -> Option<Found>
-    ensures { result ≡ (nodes.given a (rules.group at)).found }
+fn group(
+    alloc: Global,
+    at: u32,
+    a: Option<Boxed<Found>>,
+) -> Result<Option<Boxed<Found>>, AllocError>
+    ensures { IfOk result (λ found. found ≡ (nodes.given a (rules.group at)).found) }
 {
     match a {
-        None => None,
+        None => Ok(None),
         Some(a) => {
-            let Found { at: _, form } = a;
-            Some(Found { at, form })
+            let Found { at: _, form } = a.into_inner();
+            Boxed::new(alloc, Found { at, form }).map(Some)
         }
     }
 }
@@ -444,7 +448,7 @@ fn sized(
     structs: &[Struct],
     at: u32,
     name: &TypeName,
-) -> Result<Option<Found>, AllocError>
+) -> Result<Option<Boxed<Found>>, AllocError>
     ensures found { IfOk result (λ found. found ≡ (nodes.of_part (walk.named_type structs.now name.now) (rules.size_of structs.now at)).found) }
     ensures faults { OnOk result (faults.new.items ≡ faults.old.items ++ (nodes.of_part (walk.named_type structs.now name.now) (rules.size_of structs.now at)).faults) }
 {
@@ -459,10 +463,10 @@ fn member_of(
     alloc: Global,
     faults: &mut Vec<Fault>,
     structs: &[Struct],
-    a: Option<Found>,
+    a: Option<Boxed<Found>>,
     access: Access,
     name: &MemberName,
-) -> Result<Option<Found>, AllocError>
+) -> Result<Option<Boxed<Found>>, AllocError>
     ensures found { IfOk result (λ found. found ≡ (nodes.given a (λ x. rules.member structs.now access x name.now)).found) }
     ensures faults { OnOk result (faults.new.items ≡ faults.old.items ++ (nodes.given a (λ x. rules.member structs.now access x name.now)).faults) }
 {
@@ -481,8 +485,8 @@ fn prefix(
     structs: &[Struct],
     at: u32,
     operator: Operator,
-    a: Option<Found>,
-) -> Result<Option<Found>, AllocError>
+    a: Option<Boxed<Found>>,
+) -> Result<Option<Boxed<Found>>, AllocError>
     ensures found { IfOk result (λ found. found ≡ (rules.prefix structs.now at operator a).found) }
     ensures faults { OnOk result (faults.new.items ≡ faults.old.items ++ (rules.prefix structs.now at operator a).faults) }
 {
@@ -514,8 +518,8 @@ fn signed(
     faults: &mut Vec<Fault>,
     operator: UnaryOperator,
     at: u32,
-    a: Option<Found>,
-) -> Result<Option<Found>, AllocError>
+    a: Option<Boxed<Found>>,
+) -> Result<Option<Boxed<Found>>, AllocError>
     ensures found { IfOk result (λ found. found ≡ (nodes.given a (rules.unary operator at)).found) }
     ensures faults { OnOk result (faults.new.items ≡ faults.old.items ++ (nodes.given a (rules.unary operator at)).faults) }
 {
@@ -526,7 +530,7 @@ fn signed(
 }
 
 // A chain begins.
-fn begun(alloc: Global, a: Option<Found>) -> Result<Option<Run>, AllocError>
+fn begun(alloc: Global, a: Option<Boxed<Found>>) -> Result<Option<Boxed<Run>>, AllocError>
     ensures { IfOk result (λ run. run ≡ option_map rules.begin a) }
 {
     match a {
@@ -541,9 +545,9 @@ fn next(
     faults: &mut Vec<Fault>,
     structs: &[Struct],
     operator: Operator,
-    a: Option<Run>,
-    b: Option<Found>,
-) -> Result<Option<Run>, AllocError>
+    a: Option<Boxed<Run>>,
+    b: Option<Boxed<Found>>,
+) -> Result<Option<Boxed<Run>>, AllocError>
     ensures found { IfOk result (λ run. run ≡ (walk.next structs.now operator a b).found) }
     ensures faults { OnOk result (faults.new.items ≡ faults.old.items ++ (walk.next structs.now operator a b).faults) }
 {
@@ -559,9 +563,9 @@ pub fn link(
     faults: &mut Vec<Fault>,
     structs: &[Struct],
     operator: Operator,
-    a: Run,
-    b: Found,
-) -> Result<Option<Run>, AllocError>
+    a: Boxed<Run>,
+    b: Boxed<Found>,
+) -> Result<Option<Boxed<Run>>, AllocError>
     ensures found { IfOk result (λ run. run ≡ (rules.link structs.now operator a b).found) }
     ensures faults { OnOk result (faults.new.items ≡ faults.old.items ++ (rules.link structs.now operator a b).faults) }
 {
@@ -592,7 +596,7 @@ pub fn link(
 }
 
 // A chain ends.
-fn ended(alloc: Global, a: Option<Run>) -> Result<Option<Found>, AllocError>
+fn ended(alloc: Global, a: Option<Boxed<Run>>) -> Result<Option<Boxed<Found>>, AllocError>
     ensures { IfOk result (λ found. found ≡ walk.ended a) }
 {
     match a {
@@ -604,10 +608,10 @@ fn ended(alloc: Global, a: Option<Run>) -> Result<Option<Found>, AllocError>
 fn choice_of(
     alloc: Global,
     faults: &mut Vec<Fault>,
-    c: Option<Found>,
-    a: Option<Found>,
-    b: Option<Found>,
-) -> Result<Option<Found>, AllocError>
+    c: Option<Boxed<Found>>,
+    a: Option<Boxed<Found>>,
+    b: Option<Boxed<Found>>,
+) -> Result<Option<Boxed<Found>>, AllocError>
     ensures found { IfOk result (λ found. found ≡ (walk.choice_of c a b).found) }
     ensures faults { OnOk result (faults.new.items ≡ faults.old.items ++ (walk.choice_of c a b).faults) }
 {

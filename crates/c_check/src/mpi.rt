@@ -22,7 +22,7 @@ use c_tree::tree::{Expr, MpiCall, Name, Status};
 use c_tree::{Datatype as Word, Kind};
 use indexmap::IndexMap;
 use mpi_words::Datatype;
-use sqlite_items::Items;
+use sqlite_items::{Boxed, Items};
 use std::alloc::{AllocError, Global};
 
 /// A call of MPI (MPI 3.1 3.2, 8.7).
@@ -152,7 +152,7 @@ fn values(
     structs: &[Struct],
     scope: &Scope,
     es: &[&Expr],
-) -> Result<Option<Items<Found>>, AllocError>
+) -> Result<Option<Items<Boxed<Found>>>, AllocError>
     ensures found { IfOk result (λ found. found ≡ (walk.values (called functions.now.entries) structs.now (scope_of scope.now) (map (λ e. e.now) es.now)).found) }
     ensures faults { OnOk result (faults.new.items ≡ faults.old.items ++ (walk.values (called functions.now.entries) structs.now (scope_of scope.now) (map (λ e. e.now) es.now)).faults) }
 {
@@ -173,7 +173,7 @@ fn call_of(
     scope: &Scope,
     c: &MpiCall,
     function: MpiFunction,
-    vs: Items<Found>,
+    vs: Items<Boxed<Found>>,
 ) -> Result<Option<Typed>, AllocError>
     ensures found { IfOk result (λ found. found ≡ (mpi.called (mpi.word_rules (scope_of scope.now) c.now) (mpi.names_of c.now) function vs).found) }
     ensures faults { OnOk result (faults.new.items ≡ faults.old.items ++ (mpi.called (mpi.word_rules (scope_of scope.now) c.now) (mpi.names_of c.now) function vs).faults) }
@@ -198,7 +198,7 @@ fn note_call(
     scope: &Scope,
     c: &MpiCall,
     roles: &[Role],
-    vs: &[Found],
+    vs: &[Boxed<Found>],
 ) -> Result<(), AllocError>
     ensures { let words = mpi.word_rules (scope_of scope.now) c.now in OnOk result (faults.new.items ≡ faults.old.items ++ (words ++ nodes.unless_broken words (roles_rules roles.now vs.now))) }
 {

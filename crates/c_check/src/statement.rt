@@ -69,7 +69,7 @@ fn note_cast(faults: &mut Vec<Fault>, kind: CType, cast: Option<Cast>) -> Result
 fn note_memory(faults: &mut Vec<Fault>, kind: CType, m: &Allocation) -> Result<(), AllocError>
     ensures { OnOk result (faults.new.items ≡ faults.old.items ++ walk.memory_rules kind m.now) }
 {
-    number(faults, m.bytes.at, kind_of(&m.bytes))?;
+    number(faults, m.bytes.get().at, kind_of(m.bytes.get()))?;
     rule(faults, !is_target(kind), Kind::MallocPlace, m.at)?;
     note_cast(faults, kind, m.cast)
 }
@@ -79,7 +79,7 @@ fn note_right(faults: &mut Vec<Fault>, kind: CType, r: &Right) -> Result<(), All
     ensures { OnOk result (faults.new.items ≡ faults.old.items ++ walk.right_rules kind r.now) }
 {
     match r {
-        Right::Value(v) => note_value(faults, kind, v),
+        Right::Value(v) => note_value(faults, kind, v.get()),
         Right::Result(c) => {
             scalar(faults, c.at, c.kind)?;
             rule(faults, clash(kind, false, c.kind), Kind::TypeMismatch, c.at)
@@ -148,19 +148,19 @@ pub fn assign(
     alloc: Global,
     faults: &mut Vec<Fault>,
     structs: &[Struct],
-    a: Found,
+    a: Boxed<Found>,
     r: Boxed<Right>,
 ) -> Result<Option<Action>, AllocError>
     ensures found { IfOk result (λ found. found ≡ (walk.assign structs.now a r).found) }
     ensures faults { OnOk result (faults.new.items ≡ faults.old.items ++ (walk.assign structs.now a r).faults) }
 {
     let before = faults.len();
-    note_assign(faults, &a, r.get())?;
+    note_assign(faults, a.get(), r.get())?;
     if faults.len() > before {
         return Ok(None);
     }
-    let place = place_in(alloc, &a.form)?;
-    Ok(Some(stored(alloc, structs, place, kind_of(&a), r.into_inner())?))
+    let place = place_in(alloc, &a.get().form)?;
+    Ok(Some(stored(alloc, structs, place, kind_of(a.get()), r.into_inner())?))
 }
 
 // The value of a chain goes to a place of the type.
@@ -171,12 +171,12 @@ fn updated(
     at: u32,
     place: Boxed<Place<Term>>,
     kind: CType,
-    run: Run,
+    run: Boxed<Run>,
 ) -> Result<Option<Action>, AllocError>
     ensures found { IfOk result (λ found. found ≡ (walk.updated structs.now at place kind run).found) }
     ensures faults { OnOk result (faults.new.items ≡ faults.old.items ++ (walk.updated structs.now at place kind run).faults) }
 {
-    let clash = clash(kind, false, run.kind);
+    let clash = clash(kind, false, run.get().kind);
     rule(faults, clash, Kind::TypeMismatch, at)?;
     if clash {
         return Ok(None);
@@ -192,17 +192,17 @@ pub fn compound(
     faults: &mut Vec<Fault>,
     structs: &[Struct],
     operator: Operator,
-    a: Found,
-    v: Found,
+    a: Boxed<Found>,
+    v: Boxed<Found>,
 ) -> Result<Option<Action>, AllocError>
     ensures found { IfOk result (λ found. found ≡ (walk.compound structs.now operator a v).found) }
     ensures faults { OnOk result (faults.new.items ≡ faults.old.items ++ (walk.compound structs.now operator a v).faults) }
 {
-    let at = v.at;
-    let kind = kind_of(&a);
-    let assignable = is_assignable(&a.form);
-    rule(faults, !assignable, Kind::NotPlace, a.at)?;
-    let place = place_in(alloc, &a.form)?;
+    let at = v.get().at;
+    let kind = kind_of(a.get());
+    let assignable = is_assignable(&a.get().form);
+    rule(faults, !assignable, Kind::NotPlace, a.get().at)?;
+    let place = place_in(alloc, &a.get().form)?;
     match link(alloc, faults, structs, operator, begin(alloc, a)?, v)? {
         None => Ok(None),
         Some(run) => {
@@ -220,7 +220,7 @@ pub fn stepped(
     faults: &mut Vec<Fault>,
     structs: &[Struct],
     step: Step,
-    a: Found,
+    a: Boxed<Found>,
 ) -> Result<Option<Action>, AllocError>
     ensures found { IfOk result (λ found. found ≡ (walk.stepped structs.now step a).found) }
     ensures faults { OnOk result (faults.new.items ≡ faults.old.items ++ (walk.stepped structs.now step a).faults) }
@@ -229,7 +229,7 @@ pub fn stepped(
         Step::Increment => Operator::Plus,
         Step::Decrement => Operator::Minus,
     };
-    let one = constant(alloc, a.at, 1, IntegerType::Int)?;
+    let one = constant(alloc, a.get().at, 1, IntegerType::Int)?;
     compound(alloc, faults, structs, operator, a, one)
 }
 
@@ -237,13 +237,13 @@ pub fn stepped(
 fn condition_of(
     alloc: Global,
     faults: &mut Vec<Fault>,
-    a: Found,
+    a: Boxed<Found>,
 ) -> Result<Option<Boxed<Term>>, AllocError>
     ensures found { IfOk result (λ found. found ≡ (walk.condition_of a).found) }
     ensures faults { OnOk result (faults.new.items ≡ faults.old.items ++ (walk.condition_of a).faults) }
 {
     let before = faults.len();
-    scalar(faults, a.at, kind_of(&a))?;
+    scalar(faults, a.get().at, kind_of(a.get()))?;
     if faults.len() > before {
         return Ok(None);
     }
@@ -257,7 +257,7 @@ pub fn returned(
     faults: &mut Vec<Fault>,
     at: u32,
     result_type: CType,
-    v: Option<Found>,
+    v: Option<Boxed<Found>>,
 ) -> Result<Option<Typed>, AllocError>
     ensures found { IfOk result (λ found. found ≡ (walk.returned at result_type v).found) }
     ensures faults { OnOk result (faults.new.items ≡ faults.old.items ++ (walk.returned at result_type v).faults) }
@@ -285,26 +285,30 @@ pub fn returned(
 fn note_result(
     faults: &mut Vec<Fault>,
     result_type: CType,
-    v: &Option<Found>,
+    v: &Option<Boxed<Found>>,
 ) -> Result<(), AllocError>
     ensures { OnOk result (faults.new.items ≡ faults.old.items ++ walk.result_rules result_type v.now) }
 {
     match v {
         None => Ok(()),
-        Some(v) => note_value(faults, result_type, v),
+        Some(v) => note_value(faults, result_type, v.get()),
     }
 }
 
 /// `free`.
 #[tactic(auto, using(std::proofs::Common::append_assoc), unfolding(crate::specs::Statement::freed))]
-pub fn freed(alloc: Global, faults: &mut Vec<Fault>, a: Found) -> Result<Option<Typed>, AllocError>
+pub fn freed(
+    alloc: Global,
+    faults: &mut Vec<Fault>,
+    a: Boxed<Found>,
+) -> Result<Option<Typed>, AllocError>
     ensures found { IfOk result (λ found. found ≡ (walk.freed a).found) }
     ensures faults { OnOk result (faults.new.items ≡ faults.old.items ++ (walk.freed a).faults) }
 {
     let before = faults.len();
-    let kind = kind_of(&a);
-    scalar(faults, a.at, kind)?;
-    rule(faults, !is_pointer(kind), Kind::NotPointer, a.at)?;
+    let kind = kind_of(a.get());
+    scalar(faults, a.get().at, kind)?;
+    rule(faults, !is_pointer(kind), Kind::NotPointer, a.get().at)?;
     if faults.len() > before {
         return Ok(None);
     }
@@ -314,7 +318,7 @@ pub fn freed(alloc: Global, faults: &mut Vec<Fault>, a: Found) -> Result<Option<
 // ---- printf
 
 // The values of expressions.
-fn values_of(alloc: Global, vs: Items<Found>) -> Result<Items<Term>, AllocError>
+fn values_of(alloc: Global, vs: Items<Boxed<Found>>) -> Result<Items<Term>, AllocError>
     ensures { IfOk result (λ terms. terms ≡ map rules.value vs) }
 {
     let mut vs = vs;
@@ -332,7 +336,7 @@ pub fn printed(
     alloc: Global,
     faults: &mut Vec<Fault>,
     format: &Text,
-    vs: Items<Found>,
+    vs: Items<Boxed<Found>>,
 ) -> Result<Option<Typed>, AllocError>
     ensures found { IfOk result (λ found. found ≡ (walk.printed format.now vs).found) }
     ensures faults { OnOk result (faults.new.items ≡ faults.old.items ++ (walk.printed format.now vs).faults) }
@@ -573,7 +577,7 @@ fn expression_statement(
             None => match expression(alloc, faults, functions, structs, scope, e)? {
                 None => Ok(None),
                 Some(a) => {
-                    rule(faults, true, Kind::CallPlace, a.at)?;
+                    rule(faults, true, Kind::CallPlace, a.get().at)?;
                     Ok(None)
                 }
             },

@@ -1,5 +1,6 @@
 -- The rules that are broken at a node and its parts, and its typed form where none is.
-use Rattle.std.specs.Prelude.{ℕ, Bool, true, List, [], ◌∷◌, ◌++◌, Option, Some, None, if◌then◌else◌}
+use Rattle.std.specs.Prelude.{◌≡◌, ℕ, Bool, true, List, [], ◌∷◌, ◌++◌, Option, Some, None, Vec, if◌then◌else◌}
+use Rattle.std.specs.declared.alloc.Global.{Global}
 use Rattle.c_tree.specs.declared.kind.Kind.{Kind}
 use Rattle.c_rules.specs.declared.fault.Fault.{Fault}
 
@@ -14,6 +15,10 @@ breaks b kind at = if b then record { kind = kind; at = at } ∷ [] else []
 abbrev pub sound : {A : Type 0} → List Fault → A → Option A
 sound [] x = Some x
 sound (f ∷ fs) x = None
+
+-- the list has these broken rules more at its end
+abbrev pub Notes : Vec Fault Global → Vec Fault Global → List Fault → Type 0
+Notes old new rules = new.items ≡ old.items ++ rules
 
 -- a node, by its own rules and what it is where it breaks none of them
 abbrev pub by : {A : Type 0} → List Fault → A → Judged A

@@ -1,7 +1,7 @@
 //! Broken rules.
 
-ghost use Rattle.std.specs.Prelude.{◌≡◌, ◌++◌, OnOk};
-ghost use Rattle.c_rules.specs.Judged.{breaks};
+ghost use Rattle.std.specs.Prelude.{OnOk};
+ghost use Rattle.c_rules.specs.Judged.{Notes, breaks};
 
 use c_tree::Kind;
 use std::alloc::AllocError;
@@ -15,7 +15,7 @@ pub struct Fault {
 
 /// Notes that a rule is broken at a place, where it is.
 pub fn rule(faults: &mut Vec<Fault>, broken: bool, kind: Kind, at: u32) -> Result<(), AllocError>
-    ensures { OnOk result (faults.new.items ≡ faults.old.items ++ breaks broken kind at) }
+    ensures { OnOk result (Notes faults.old faults.new (breaks broken kind at)) }
 {
     if broken {
         faults.push(Fault { kind, at })?;

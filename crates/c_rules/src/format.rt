@@ -8,7 +8,7 @@ use crate::rules::kind_of;
 use crate::types::{integer_of, is_integer, promoted, same_integer};
 use c_kernel::program::Piece;
 use c_kernel::{CType, IntegerType};
-use sqlite_items::Items;
+use sqlite_items::{Boxed, Items};
 use std::alloc::{AllocError, Global};
 
 /// Where a byte of a format stands: outside a conversion, behind `%` or behind `%l`.
@@ -106,7 +106,7 @@ fn computes_as(kind: IntegerType, t: CType) -> bool
 }
 
 /// Whether there is one argument for each conversion, of its type.
-pub fn fit(pieces: &[Piece], values: &[Found]) -> bool
+pub fn fit(pieces: &[Piece], values: &[Boxed<Found>]) -> bool
     ensures { result ≡ formats.fit pieces.now values.now }
 {
     let mut rest = values;
@@ -116,7 +116,7 @@ pub fn fit(pieces: &[Piece], values: &[Found]) -> bool
             Some(kind) => match rest {
                 [] => return false,
                 [value, more @ ..] => {
-                    if !computes_as(kind, kind_of(value)) {
+                    if !computes_as(kind, kind_of(value.get())) {
                         return false;
                     }
                     rest = more;

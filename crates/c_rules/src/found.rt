@@ -40,7 +40,7 @@ pub struct Run {
 /// What stands right of `=`, or as a statement.
 #[derive(Drop)]
 pub enum Right {
-    Value(Found),
+    Value(Boxed<Found>),
     Result(Invocation),
     Memory(Allocation),
 }
@@ -59,7 +59,7 @@ pub struct Invocation {
 pub struct Allocation {
     pub at: u32,
     pub cast: Option<Cast>,
-    pub bytes: Found,
+    pub bytes: Boxed<Found>,
 }
 
 /// A cast at this place, to the type.

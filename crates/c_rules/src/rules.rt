@@ -6,7 +6,8 @@ mod roles;
 mod selections;
 mod values;
 
-ghost use Rattle.std.specs.Prelude.{◌≡◌, ◌++◌, IfOk, OnOk};
+ghost use Rattle.std.specs.Prelude.{◌≡◌, IfOk, OnOk, unwrap_or};
+ghost use Rattle.c_rules.specs.Judged.{Notes};
 ghost use Rattle.c_rules.specs.Rules as rules;
 
 use crate::fault::{Fault, rule};
@@ -57,7 +58,7 @@ fn choice_type(t: CType, u: CType) -> CType
 
 #[tactic(auto, using(std::proofs::Common::append_assoc))]
 fn note_choice(faults: &mut Vec<Fault>, c: &Found, a: &Found, b: &Found) -> Result<(), AllocError>
-    ensures { OnOk result (faults.new.items ≡ faults.old.items ++ rules.choice_rules c.now a.now b.now) }
+    ensures { OnOk result (Notes faults.old faults.new (rules.choice_rules c.now a.now b.now)) }
 {
     scalar(faults, c.at, kind_of(c))?;
     scalar(faults, a.at, kind_of(a))?;
@@ -67,10 +68,16 @@ fn note_choice(faults: &mut Vec<Fault>, c: &Found, a: &Found, b: &Found) -> Resu
     rule(faults, clash, Kind::TypeMismatch, c.at)
 }
 
-fn chosen(alloc: Global, kind: CType, c: Found, a: Found, b: Found) -> Result<Found, AllocError>
+fn chosen(
+    alloc: Global,
+    kind: CType,
+    c: Boxed<Found>,
+    a: Boxed<Found>,
+    b: Boxed<Found>,
+) -> Result<Boxed<Found>, AllocError>
     ensures { IfOk result (λ found. found ≡ rules.chosen c.at kind c a b) }
 {
-    let at = c.at;
+    let at = c.get().at;
     let test = value(alloc, c)?;
     let then = value_as(alloc, kind, a)?;
     let otherwise = value_as(alloc, kind, b)?;
@@ -82,7 +89,7 @@ fn chosen(alloc: Global, kind: CType, c: Found, a: Found, b: Found) -> Result<Fo
             otherwise,
         },
     )?;
-    Ok(plain(at, kind, term))
+    plain(alloc, at, kind, term)
 }
 
 /// `test ? then : otherwise`.
@@ -90,20 +97,20 @@ fn chosen(alloc: Global, kind: CType, c: Found, a: Found, b: Found) -> Result<Fo
 pub fn choice(
     alloc: Global,
     faults: &mut Vec<Fault>,
-    c: Found,
-    a: Found,
-    b: Found,
-) -> Result<Option<Found>, AllocError>
+    c: Boxed<Found>,
+    a: Boxed<Found>,
+    b: Boxed<Found>,
+) -> Result<Option<Boxed<Found>>, AllocError>
     ensures found { IfOk result (λ found. found ≡ (rules.choice c a b).found) }
-    ensures faults { OnOk result (faults.new.items ≡ faults.old.items ++ (rules.choice c a b).faults) }
+    ensures faults { OnOk result (Notes faults.old faults.new (rules.choice c a b).faults) }
 {
     let before = faults.len();
-    note_choice(faults, &c, &a, &b)?;
+    note_choice(faults, c.get(), a.get(), b.get())?;
     if faults.len() > before {
         return Ok(None);
     }
-    let kind = choice_type(kind_of(&a), kind_of(&b));
-    Ok(Some(chosen(alloc, kind, c, a, b)?))
+    let kind = choice_type(kind_of(a.get()), kind_of(b.get()));
+    chosen(alloc, kind, c, a, b).map(Some)
 }
 
 // ---- calls
@@ -112,12 +119,13 @@ pub fn choice(
 fn note_arguments(
     faults: &mut Vec<Fault>,
     kinds: &[CType],
-    values: &[Found],
+    values: &[Boxed<Found>],
 ) -> Result<(), AllocError>
-    ensures { OnOk result (faults.new.items ≡ faults.old.items ++ rules.argument_rules kinds.now values.now) }
+    ensures { OnOk result (Notes faults.old faults.new (rules.argument_rules kinds.now values.now)) }
 {
     let mut kinds = kinds;
     for v in values {
+        let v = v.get();
         match kinds {
             [] => scalar(faults, v.at, kind_of(v))?,
             [kind, more @ ..] => {
@@ -130,7 +138,11 @@ fn note_arguments(
 }
 
 // The values as they are passed.
-fn passed(alloc: Global, kinds: &[CType], values: Items<Found>) -> Result<Items<Expr>, AllocError>
+fn passed(
+    alloc: Global,
+    kinds: &[CType],
+    values: Items<Boxed<Found>>,
+) -> Result<Items<Expr>, AllocError>
     ensures { IfOk result (λ terms. terms ≡ rules.passed kinds.now values) }
 {
     let mut values = values;
@@ -151,9 +163,9 @@ fn note_header(
     faults: &mut Vec<Fault>,
     at: u32,
     f: &Signature,
-    values: &[Found],
+    values: &[Boxed<Found>],
 ) -> Result<(), AllocError>
-    ensures { OnOk result (faults.new.items ≡ faults.old.items ++ rules.header_rules at f.now values.now) }
+    ensures { OnOk result (Notes faults.old faults.new (rules.header_rules at f.now values.now)) }
 {
     if !f.sound {
         return Ok(());
@@ -169,9 +181,9 @@ fn note_call(
     main: bool,
     at: u32,
     f: &Signature,
-    values: &[Found],
+    values: &[Boxed<Found>],
 ) -> Result<(), AllocError>
-    ensures { OnOk result (faults.new.items ≡ faults.old.items ++ rules.call_rules main at f.now values.now) }
+    ensures { OnOk result (Notes faults.old faults.new (rules.call_rules main at f.now values.now)) }
 {
     rule(faults, main, Kind::BadMain, at)?;
     rule(faults, f.number.is_none(), Kind::Undefined, at)?;
@@ -187,10 +199,10 @@ pub fn call(
     at: u32,
     called: u32,
     f: &Signature,
-    values: Items<Found>,
+    values: Items<Boxed<Found>>,
 ) -> Result<Option<Invocation>, AllocError>
     ensures found { IfOk result (λ found. found ≡ (rules.call main at called f.now values).found) }
-    ensures faults { OnOk result (faults.new.items ≡ faults.old.items ++ (rules.call main at called f.now values).faults) }
+    ensures faults { OnOk result (Notes faults.old faults.new (rules.call main at called f.now values).faults) }
 {
     let before = faults.len();
     note_call(faults, main, called, f, values.as_slice())?;
@@ -200,12 +212,23 @@ pub fn call(
     if !f.sound {
         return Ok(None);
     }
-    Ok(Some(Invocation {
+    invocation(alloc, at, f, values).map(Some)
+}
+
+fn invocation(
+    alloc: Global,
+    at: u32,
+    f: &Signature,
+    values: Items<Boxed<Found>>,
+) -> Result<Invocation, AllocError>
+    ensures { IfOk result (λ call. call ≡ record { at = at; kind = f.now.result; function = unwrap_or f.now.number 0; arguments = rules.passed f.now.parameters values }) }
+{
+    Ok(Invocation {
         at,
         kind: f.result,
         function: f.number.unwrap_or(0),
         arguments: passed(alloc, f.parameters.as_slice(), values)?,
-    }))
+    })
 }
 
 /// A call that is a part of an expression, of the function with the name at this place.
@@ -215,10 +238,10 @@ pub fn misplaced_call(
     main: bool,
     at: u32,
     f: &Signature,
-    values: &[Found],
-) -> Result<Option<Found>, AllocError>
+    values: &[Boxed<Found>],
+) -> Result<Option<Boxed<Found>>, AllocError>
     ensures found { IfOk result (λ found. found ≡ (rules.misplaced main at f.now values.now).found) }
-    ensures faults { OnOk result (faults.new.items ≡ faults.old.items ++ (rules.misplaced main at f.now values.now).faults) }
+    ensures faults { OnOk result (Notes faults.old faults.new (rules.misplaced main at f.now values.now).faults) }
 {
     note_call(faults, main, at, f, values)?;
     rule(faults, true, Kind::CallPlace, at)?;

@@ -1,7 +1,8 @@
 //! Types, and the conversions of their values.
 
-ghost use Rattle.std.specs.Prelude.{◌≡◌, ◌++◌, ◌<◌, IfOk, OnOk, All};
+ghost use Rattle.std.specs.Prelude.{◌≡◌, ◌<◌, IfOk, OnOk, All};
 ghost use Rattle.std.specs.Option.{option_copied};
+ghost use Rattle.c_rules.specs.Judged.{Notes};
 ghost use Rattle.c_rules.specs.Types as types;
 
 use crate::fault::{Fault, rule};
@@ -93,7 +94,7 @@ pub fn note_specifier(
     own: Option<&[u8]>,
     specifier: &TypeSpecifier,
 ) -> Result<(), AllocError>
-    ensures { OnOk result (faults.new.items ≡ faults.old.items ++ types.specifier_rules structs.now (option_copied own.entry) specifier.now) }
+    ensures { OnOk result (Notes faults.old faults.new (types.specifier_rules structs.now (option_copied own.entry) specifier.now)) }
 {
     match specifier {
         TypeSpecifier::Plain { .. } => Ok(()),

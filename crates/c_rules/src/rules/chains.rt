@@ -1,6 +1,7 @@
 //! Operators of two operands, grouped from the left (C99 6.5.5 to 6.5.14).
 
 ghost use Rattle.std.specs.Prelude.{◌≡◌, ◌++◌, IfOk, OnOk, if◌then◌else◌};
+ghost use Rattle.c_rules.specs.Judged.{Notes};
 ghost use Rattle.c_rules.specs.Rules as rules;
 ghost use Rattle.c_rules.specs.Types as types;
 
@@ -20,23 +21,28 @@ use sqlite_items::{Boxed, Items};
 use std::alloc::{AllocError, Global};
 
 /// A chain that begins with a value.
-pub fn begin(alloc: Global, a: Found) -> Result<Run, AllocError>
+pub fn begin(alloc: Global, a: Boxed<Found>) -> Result<Boxed<Run>, AllocError>
     ensures { IfOk result (λ run. run ≡ rules.begin a) }
 {
-    let at = a.at;
-    let kind = kind_of(&a);
-    let zero = is_zero(&a);
-    Ok(Run {
-        at,
-        kind,
-        zero,
-        first: value(alloc, a)?,
-        rest: Items::new(alloc),
-    })
+    let at = a.get().at;
+    let kind = kind_of(a.get());
+    let zero = is_zero(a.get());
+    let first = value(alloc, a)?;
+    let rest = Items::new(alloc);
+    Boxed::new(
+        alloc,
+        Run {
+            at,
+            kind,
+            zero,
+            first,
+            rest,
+        },
+    )
 }
 
 /// A chain as an expression.
-pub fn closed(alloc: Global, a: Run) -> Result<Found, AllocError>
+pub fn closed(alloc: Global, a: Boxed<Run>) -> Result<Boxed<Found>, AllocError>
     ensures { IfOk result (λ found. found ≡ rules.plain a.at a.kind (rules.closed a)) }
 {
     let Run {
@@ -45,13 +51,18 @@ pub fn closed(alloc: Global, a: Run) -> Result<Found, AllocError>
         zero: _,
         first,
         rest,
-    } = a;
+    } = a.into_inner();
     let term = Boxed::new(alloc, Expr::Chain { first, rest })?;
-    Ok(plain(at, kind, term))
+    plain(alloc, at, kind, term)
 }
 
 // With one operator more.
-fn extended(a: Run, kind: CType, link: Link<Expr>) -> Result<Run, AllocError>
+fn extended(
+    alloc: Global,
+    a: Boxed<Run>,
+    kind: CType,
+    link: Link<Expr>,
+) -> Result<Boxed<Run>, AllocError>
     ensures { IfOk result (λ run. run ≡ rules.extended a kind link) }
 {
     let Run {
@@ -60,45 +71,52 @@ fn extended(a: Run, kind: CType, link: Link<Expr>) -> Result<Run, AllocError>
         zero: _,
         first,
         mut rest,
-    } = a;
+    } = a.into_inner();
     rest.push(link)?;
-    Ok(Run {
-        at,
-        kind,
-        zero: false,
-        first,
-        rest,
-    })
+    Boxed::new(
+        alloc,
+        Run {
+            at,
+            kind,
+            zero: false,
+            first,
+            rest,
+        },
+    )
 }
 
 // The literal 0 as a pointer.
-fn as_pointer(alloc: Global, a: Run) -> Result<Run, AllocError>
+fn as_pointer(alloc: Global, a: Boxed<Run>) -> Result<Boxed<Run>, AllocError>
     ensures { IfOk result (λ run. run ≡ rules.as_pointer a) }
 {
-    if !a.zero {
+    if !a.get().zero {
         return Ok(a);
     }
+    let first = Boxed::new(alloc, Expr::Null)?;
     let Run {
         at,
         kind,
         zero,
         first: _,
         rest,
-    } = a;
-    Ok(Run {
-        at,
-        kind,
-        zero,
-        first: Boxed::new(alloc, Expr::Null)?,
-        rest,
-    })
+    } = a.into_inner();
+    Boxed::new(
+        alloc,
+        Run {
+            at,
+            kind,
+            zero,
+            first,
+            rest,
+        },
+    )
 }
 
 // ---- rules of two operands
 
 #[tactic(auto, using(std::proofs::Common::append_assoc))]
 fn numbers(faults: &mut Vec<Fault>, a: &Run, b: &Found) -> Result<(), AllocError>
-    ensures { OnOk result (faults.new.items ≡ faults.old.items ++ rules.numbers_rules a.now b.now) }
+    ensures { OnOk result (Notes faults.old faults.new (rules.numbers_rules a.now b.now)) }
 {
     number(faults, a.at, a.kind)?;
     number(faults, b.at, kind_of(b))
@@ -106,7 +124,7 @@ fn numbers(faults: &mut Vec<Fault>, a: &Run, b: &Found) -> Result<(), AllocError
 
 #[tactic(auto, using(std::proofs::Common::append_assoc))]
 fn scalars(faults: &mut Vec<Fault>, a: &Run, b: &Found) -> Result<(), AllocError>
-    ensures { OnOk result (faults.new.items ≡ faults.old.items ++ rules.scalars_rules a.now b.now) }
+    ensures { OnOk result (Notes faults.old faults.new (rules.scalars_rules a.now b.now)) }
 {
     scalar(faults, a.at, a.kind)?;
     scalar(faults, b.at, kind_of(b))
@@ -124,7 +142,7 @@ pub fn operands_clash(zero: bool, t: CType, other: bool, u: CType) -> bool
 }
 
 fn mismatch(faults: &mut Vec<Fault>, a: &Run, b: &Found) -> Result<(), AllocError>
-    ensures { OnOk result (faults.new.items ≡ faults.old.items ++ rules.mismatch a.now b.now) }
+    ensures { OnOk result (Notes faults.old faults.new (rules.mismatch a.now b.now)) }
 {
     let kind = kind_of(b);
     let clash = has_pointer(a.kind, kind) && operands_clash(a.zero, a.kind, is_zero(b), kind);
@@ -132,7 +150,7 @@ fn mismatch(faults: &mut Vec<Fault>, a: &Run, b: &Found) -> Result<(), AllocErro
 }
 
 fn note_sum(faults: &mut Vec<Fault>, a: &Run, b: &Found) -> Result<(), AllocError>
-    ensures { OnOk result (faults.new.items ≡ faults.old.items ++ rules.sum_rules a.now b.now) }
+    ensures { OnOk result (Notes faults.old faults.new (rules.sum_rules a.now b.now)) }
 {
     if !is_target(a.kind) {
         return numbers(faults, a, b);
@@ -142,7 +160,7 @@ fn note_sum(faults: &mut Vec<Fault>, a: &Run, b: &Found) -> Result<(), AllocErro
 
 #[tactic(auto, using(std::proofs::Common::append_assoc))]
 fn note_minus(faults: &mut Vec<Fault>, a: &Run, b: &Found) -> Result<(), AllocError>
-    ensures { OnOk result (faults.new.items ≡ faults.old.items ++ rules.minus_rules a.now b.now) }
+    ensures { OnOk result (Notes faults.old faults.new (rules.minus_rules a.now b.now)) }
 {
     if !is_pointer(kind_of(b)) {
         return note_sum(faults, a, b);
@@ -153,17 +171,22 @@ fn note_minus(faults: &mut Vec<Fault>, a: &Run, b: &Found) -> Result<(), AllocEr
 
 // ---- arithmetic
 
-fn computed(alloc: Global, operator: Arithmetic, a: Run, b: Found) -> Result<Run, AllocError>
+fn computed(
+    alloc: Global,
+    operator: Arithmetic,
+    a: Boxed<Run>,
+    b: Boxed<Found>,
+) -> Result<Boxed<Run>, AllocError>
     ensures { IfOk result (λ run. run ≡ rules.computed operator a b) }
 {
-    let left = integer_of(a.kind);
-    let kind = common(left, integer_of(kind_of(&b)));
+    let left = integer_of(a.get().kind);
+    let kind = common(left, integer_of(kind_of(b.get())));
     let link = Link {
         conversion: change(kind, left),
         operator: BinaryOperator::Arithmetic { operator, kind },
         operand: value_in(alloc, kind, b)?.into_inner(),
     };
-    extended(a, integer(kind), link)
+    extended(alloc, a, integer(kind), link)
 }
 
 /// `*`, `/`, `%`, `&`, `^` or `|`.
@@ -172,18 +195,18 @@ pub fn arithmetic(
     alloc: Global,
     faults: &mut Vec<Fault>,
     operator: Arithmetic,
-    a: Run,
-    b: Found,
-) -> Result<Option<Run>, AllocError>
+    a: Boxed<Run>,
+    b: Boxed<Found>,
+) -> Result<Option<Boxed<Run>>, AllocError>
     ensures found { IfOk result (λ found. found ≡ (rules.arithmetic operator a b).found) }
-    ensures faults { OnOk result (faults.new.items ≡ faults.old.items ++ (rules.arithmetic operator a b).faults) }
+    ensures faults { OnOk result (Notes faults.old faults.new (rules.arithmetic operator a b).faults) }
 {
     let before = faults.len();
-    numbers(faults, &a, &b)?;
+    numbers(faults, a.get(), b.get())?;
     if faults.len() > before {
         return Ok(None);
     }
-    Ok(Some(computed(alloc, operator, a, b)?))
+    computed(alloc, operator, a, b).map(Some)
 }
 
 // A pointer and a number of elements.
@@ -191,58 +214,79 @@ fn advanced(
     alloc: Global,
     structs: &[Struct],
     way: Way,
-    a: Run,
-    b: Found,
-) -> Result<Run, AllocError>
+    a: Boxed<Run>,
+    b: Boxed<Found>,
+) -> Result<Boxed<Run>, AllocError>
     ensures { IfOk result (λ run. run ≡ rules.advanced structs.now way a b) }
 {
-    let kind = a.kind;
+    let kind = a.get().kind;
     let cells = element_cells(structs, target(kind));
     let link = Link {
         conversion: None,
         operator: BinaryOperator::Advance { way, cells },
         operand: value(alloc, b)?.into_inner(),
     };
-    extended(a, kind, link)
+    extended(alloc, a, kind, link)
 }
 
 // From one pointer to another.
-fn between(alloc: Global, structs: &[Struct], a: Run, b: Found) -> Result<Run, AllocError>
+fn between(
+    alloc: Global,
+    structs: &[Struct],
+    a: Boxed<Run>,
+    b: Boxed<Found>,
+) -> Result<Boxed<Run>, AllocError>
     ensures { IfOk result (λ run. run ≡ rules.between structs.now a b) }
 {
-    let cells = element_cells(structs, target(met(a.kind, kind_of(&b))));
+    let cells = element_cells(structs, target(met(a.get().kind, kind_of(b.get()))));
+    let first = as_pointer(alloc, a)?;
     let link = Link {
         conversion: None,
         operator: BinaryOperator::Distance { cells },
         operand: pointer(alloc, b)?.into_inner(),
     };
-    extended(as_pointer(alloc, a)?, integer(IntegerType::Long), link)
+    extended(alloc, first, integer(IntegerType::Long), link)
 }
 
-fn sum(alloc: Global, structs: &[Struct], a: Run, b: Found) -> Result<Run, AllocError>
+fn sum(
+    alloc: Global,
+    structs: &[Struct],
+    a: Boxed<Run>,
+    b: Boxed<Found>,
+) -> Result<Boxed<Run>, AllocError>
     ensures { IfOk result (λ run. run ≡ (if types.is_target a.kind then rules.advanced structs.now Way.Forward a b else rules.computed Arithmetic.Add a b)) }
 {
-    if is_target(a.kind) {
+    if is_target(a.get().kind) {
         advanced(alloc, structs, Way::Forward, a, b)
     } else {
         computed(alloc, Arithmetic::Add, a, b)
     }
 }
 
-fn less(alloc: Global, structs: &[Struct], a: Run, b: Found) -> Result<Run, AllocError>
+fn less(
+    alloc: Global,
+    structs: &[Struct],
+    a: Boxed<Run>,
+    b: Boxed<Found>,
+) -> Result<Boxed<Run>, AllocError>
     ensures { IfOk result (λ run. run ≡ rules.less structs.now a b) }
 {
-    if is_target(a.kind) {
+    if is_target(a.get().kind) {
         advanced(alloc, structs, Way::Back, a, b)
     } else {
         computed(alloc, Arithmetic::Subtract, a, b)
     }
 }
 
-fn difference(alloc: Global, structs: &[Struct], a: Run, b: Found) -> Result<Run, AllocError>
+fn difference(
+    alloc: Global,
+    structs: &[Struct],
+    a: Boxed<Run>,
+    b: Boxed<Found>,
+) -> Result<Boxed<Run>, AllocError>
     ensures { IfOk result (λ run. run ≡ (if types.is_pointer (rules.kind_of b) then rules.between structs.now a b else rules.less structs.now a b)) }
 {
-    if is_pointer(kind_of(&b)) {
+    if is_pointer(kind_of(b.get())) {
         between(alloc, structs, a, b)
     } else {
         less(alloc, structs, a, b)
@@ -255,18 +299,18 @@ pub fn plus(
     alloc: Global,
     faults: &mut Vec<Fault>,
     structs: &[Struct],
-    a: Run,
-    b: Found,
-) -> Result<Option<Run>, AllocError>
+    a: Boxed<Run>,
+    b: Boxed<Found>,
+) -> Result<Option<Boxed<Run>>, AllocError>
     ensures found { IfOk result (λ found. found ≡ (rules.plus structs.now a b).found) }
-    ensures faults { OnOk result (faults.new.items ≡ faults.old.items ++ (rules.plus structs.now a b).faults) }
+    ensures faults { OnOk result (Notes faults.old faults.new (rules.plus structs.now a b).faults) }
 {
     let before = faults.len();
-    note_sum(faults, &a, &b)?;
+    note_sum(faults, a.get(), b.get())?;
     if faults.len() > before {
         return Ok(None);
     }
-    Ok(Some(sum(alloc, structs, a, b)?))
+    sum(alloc, structs, a, b).map(Some)
 }
 
 /// `-`.
@@ -275,18 +319,36 @@ pub fn minus(
     alloc: Global,
     faults: &mut Vec<Fault>,
     structs: &[Struct],
-    a: Run,
-    b: Found,
-) -> Result<Option<Run>, AllocError>
+    a: Boxed<Run>,
+    b: Boxed<Found>,
+) -> Result<Option<Boxed<Run>>, AllocError>
     ensures found { IfOk result (λ found. found ≡ (rules.minus structs.now a b).found) }
-    ensures faults { OnOk result (faults.new.items ≡ faults.old.items ++ (rules.minus structs.now a b).faults) }
+    ensures faults { OnOk result (Notes faults.old faults.new (rules.minus structs.now a b).faults) }
 {
     let before = faults.len();
-    note_minus(faults, &a, &b)?;
+    note_minus(faults, a.get(), b.get())?;
     if faults.len() > before {
         return Ok(None);
     }
-    Ok(Some(difference(alloc, structs, a, b)?))
+    difference(alloc, structs, a, b).map(Some)
+}
+
+fn shifted(
+    alloc: Global,
+    direction: Direction,
+    a: Boxed<Run>,
+    b: Boxed<Found>,
+) -> Result<Boxed<Run>, AllocError>
+    ensures { IfOk result (λ run. let kind = types.promoted (types.integer_of a.kind) in run ≡ rules.extended a (types.integer kind) (record { conversion = types.change kind (types.integer_of a.kind); operator = BinaryOperator.Shift direction kind; operand = rules.value b })) }
+{
+    let left = integer_of(a.get().kind);
+    let kind = promoted(left);
+    let link = Link {
+        conversion: change(kind, left),
+        operator: BinaryOperator::Shift { direction, kind },
+        operand: value(alloc, b)?.into_inner(),
+    };
+    extended(alloc, a, integer(kind), link)
 }
 
 /// `<<` or `>>`.
@@ -295,25 +357,18 @@ pub fn shift(
     alloc: Global,
     faults: &mut Vec<Fault>,
     direction: Direction,
-    a: Run,
-    b: Found,
-) -> Result<Option<Run>, AllocError>
+    a: Boxed<Run>,
+    b: Boxed<Found>,
+) -> Result<Option<Boxed<Run>>, AllocError>
     ensures found { IfOk result (λ found. found ≡ (rules.shift direction a b).found) }
-    ensures faults { OnOk result (faults.new.items ≡ faults.old.items ++ (rules.shift direction a b).faults) }
+    ensures faults { OnOk result (Notes faults.old faults.new (rules.shift direction a b).faults) }
 {
     let before = faults.len();
-    numbers(faults, &a, &b)?;
+    numbers(faults, a.get(), b.get())?;
     if faults.len() > before {
         return Ok(None);
     }
-    let left = integer_of(a.kind);
-    let kind = promoted(left);
-    let link = Link {
-        conversion: change(kind, left),
-        operator: BinaryOperator::Shift { direction, kind },
-        operand: value(alloc, b)?.into_inner(),
-    };
-    Ok(Some(extended(a, integer(kind), link)?))
+    shifted(alloc, direction, a, b).map(Some)
 }
 
 // ---- comparison
@@ -321,7 +376,7 @@ pub fn shift(
 // The rules of two numbers or two pointers.
 #[tactic(auto, using(std::proofs::Common::append_assoc))]
 fn note_comparison(faults: &mut Vec<Fault>, a: &Run, b: &Found) -> Result<(), AllocError>
-    ensures { OnOk result (faults.new.items ≡ faults.old.items ++ (rules.scalars_rules a.now b.now ++ rules.mismatch a.now b.now)) }
+    ensures { OnOk result (Notes faults.old faults.new (rules.scalars_rules a.now b.now ++ rules.mismatch a.now b.now)) }
 {
     scalars(faults, a, b)?;
     mismatch(faults, a, b)
@@ -330,41 +385,47 @@ fn note_comparison(faults: &mut Vec<Fault>, a: &Run, b: &Found) -> Result<(), Al
 fn compared_numbers(
     alloc: Global,
     operator: Comparison,
-    a: Run,
-    b: Found,
-) -> Result<Run, AllocError>
+    a: Boxed<Run>,
+    b: Boxed<Found>,
+) -> Result<Boxed<Run>, AllocError>
     ensures { IfOk result (λ run. run ≡ rules.compared_numbers operator a b) }
 {
-    let left = integer_of(a.kind);
-    let kind = common(left, integer_of(kind_of(&b)));
+    let left = integer_of(a.get().kind);
+    let kind = common(left, integer_of(kind_of(b.get())));
     let link = Link {
         conversion: change(kind, left),
         operator: BinaryOperator::Comparison(operator),
         operand: value_in(alloc, kind, b)?.into_inner(),
     };
-    extended(a, integer(IntegerType::Int), link)
+    extended(alloc, a, integer(IntegerType::Int), link)
 }
 
 fn compared_pointers(
     alloc: Global,
     operator: Comparison,
-    a: Run,
-    b: Found,
-) -> Result<Run, AllocError>
+    a: Boxed<Run>,
+    b: Boxed<Found>,
+) -> Result<Boxed<Run>, AllocError>
     ensures { IfOk result (λ run. run ≡ rules.compared_pointers operator a b) }
 {
+    let first = as_pointer(alloc, a)?;
     let link = Link {
         conversion: None,
         operator: BinaryOperator::PointerComparison(operator),
         operand: pointer(alloc, b)?.into_inner(),
     };
-    extended(as_pointer(alloc, a)?, integer(IntegerType::Int), link)
+    extended(alloc, first, integer(IntegerType::Int), link)
 }
 
-fn compared(alloc: Global, operator: Comparison, a: Run, b: Found) -> Result<Run, AllocError>
+fn compared(
+    alloc: Global,
+    operator: Comparison,
+    a: Boxed<Run>,
+    b: Boxed<Found>,
+) -> Result<Boxed<Run>, AllocError>
     ensures { IfOk result (λ run. run ≡ (if rules.has_pointer a.kind (rules.kind_of b) then rules.compared_pointers operator a b else rules.compared_numbers operator a b)) }
 {
-    if has_pointer(a.kind, kind_of(&b)) {
+    if has_pointer(a.get().kind, kind_of(b.get())) {
         compared_pointers(alloc, operator, a, b)
     } else {
         compared_numbers(alloc, operator, a, b)
@@ -377,18 +438,18 @@ pub fn comparison(
     alloc: Global,
     faults: &mut Vec<Fault>,
     operator: Comparison,
-    a: Run,
-    b: Found,
-) -> Result<Option<Run>, AllocError>
+    a: Boxed<Run>,
+    b: Boxed<Found>,
+) -> Result<Option<Boxed<Run>>, AllocError>
     ensures found { IfOk result (λ found. found ≡ (rules.comparison operator a b).found) }
-    ensures faults { OnOk result (faults.new.items ≡ faults.old.items ++ (rules.comparison operator a b).faults) }
+    ensures faults { OnOk result (Notes faults.old faults.new (rules.comparison operator a b).faults) }
 {
     let before = faults.len();
-    note_comparison(faults, &a, &b)?;
+    note_comparison(faults, a.get(), b.get())?;
     if faults.len() > before {
         return Ok(None);
     }
-    Ok(Some(compared(alloc, operator, a, b)?))
+    compared(alloc, operator, a, b).map(Some)
 }
 
 /// `&&` or `||`.
@@ -397,21 +458,22 @@ pub fn logical(
     alloc: Global,
     faults: &mut Vec<Fault>,
     operator: BinaryOperator,
-    a: Run,
-    b: Found,
-) -> Result<Option<Run>, AllocError>
+    a: Boxed<Run>,
+    b: Boxed<Found>,
+) -> Result<Option<Boxed<Run>>, AllocError>
     ensures found { IfOk result (λ found. found ≡ (rules.logical operator a b).found) }
-    ensures faults { OnOk result (faults.new.items ≡ faults.old.items ++ (rules.logical operator a b).faults) }
+    ensures faults { OnOk result (Notes faults.old faults.new (rules.logical operator a b).faults) }
 {
     let before = faults.len();
-    scalars(faults, &a, &b)?;
+    scalars(faults, a.get(), b.get())?;
     if faults.len() > before {
         return Ok(None);
     }
+    let operand = value(alloc, b)?.into_inner();
     let link = Link {
         conversion: None,
         operator,
-        operand: value(alloc, b)?.into_inner(),
+        operand,
     };
-    Ok(Some(extended(a, integer(IntegerType::Int), link)?))
+    extended(alloc, a, integer(IntegerType::Int), link).map(Some)
 }

@@ -1,7 +1,11 @@
 //! Operators of one operand (C99 6.5.3, 6.5.4).
 
-ghost use Rattle.std.specs.Prelude.{◌≡◌, ◌++◌, IfOk, OnOk};
+ghost use Rattle.std.specs.Prelude.{◌≡◌, ◌++◌, not, IfOk, OnOk};
+ghost use Rattle.c_kernel.specs.declared.types.IntegerType.TheVariants.{Int};
+ghost use Rattle.c_tree.specs.declared.kind.Kind.TheVariants.{TypeMismatch};
+ghost use Rattle.c_rules.specs.Judged.{Notes, breaks};
 ghost use Rattle.c_rules.specs.Rules as rules;
+ghost use Rattle.c_rules.specs.Types as types;
 
 use crate::fault::{Fault, rule};
 use crate::found::{Form, Found};
@@ -25,17 +29,28 @@ pub fn unary(
     faults: &mut Vec<Fault>,
     operator: UnaryOperator,
     at: u32,
-    a: Found,
-) -> Result<Option<Found>, AllocError>
+    a: Boxed<Found>,
+) -> Result<Option<Boxed<Found>>, AllocError>
     ensures found { IfOk result (λ found. found ≡ (rules.unary operator at a).found) }
-    ensures faults { OnOk result (faults.new.items ≡ faults.old.items ++ (rules.unary operator at a).faults) }
+    ensures faults { OnOk result (Notes faults.old faults.new (rules.unary operator at a).faults) }
 {
     let before = faults.len();
-    number(faults, a.at, kind_of(&a))?;
+    number(faults, a.get().at, kind_of(a.get()))?;
     if faults.len() > before {
         return Ok(None);
     }
-    let kind = promoted(integer_of(kind_of(&a)));
+    signed(alloc, operator, at, a).map(Some)
+}
+
+fn signed(
+    alloc: Global,
+    operator: UnaryOperator,
+    at: u32,
+    a: Boxed<Found>,
+) -> Result<Boxed<Found>, AllocError>
+    ensures { IfOk result (λ found. let kind = types.promoted (types.integer_of (rules.kind_of a)) in found ≡ rules.plain at (types.integer kind) (Expr.Unary operator kind (rules.value_in kind a))) }
+{
+    let kind = promoted(integer_of(kind_of(a.get())));
     let operand = value_in(alloc, kind, a)?;
     let term = Boxed::new(
         alloc,
@@ -45,7 +60,7 @@ pub fn unary(
             operand,
         },
     )?;
-    Ok(Some(plain(at, integer(kind), term)))
+    plain(alloc, at, integer(kind), term)
 }
 
 /// `!`.
@@ -54,18 +69,24 @@ pub fn negation(
     alloc: Global,
     faults: &mut Vec<Fault>,
     at: u32,
-    a: Found,
-) -> Result<Option<Found>, AllocError>
+    a: Boxed<Found>,
+) -> Result<Option<Boxed<Found>>, AllocError>
     ensures found { IfOk result (λ found. found ≡ (rules.negation at a).found) }
-    ensures faults { OnOk result (faults.new.items ≡ faults.old.items ++ (rules.negation at a).faults) }
+    ensures faults { OnOk result (Notes faults.old faults.new (rules.negation at a).faults) }
 {
     let before = faults.len();
-    scalar(faults, a.at, kind_of(&a))?;
+    scalar(faults, a.get().at, kind_of(a.get()))?;
     if faults.len() > before {
         return Ok(None);
     }
+    negated(alloc, at, a).map(Some)
+}
+
+fn negated(alloc: Global, at: u32, a: Boxed<Found>) -> Result<Boxed<Found>, AllocError>
+    ensures { IfOk result (λ found. found ≡ rules.plain at (types.integer Int) (Expr.Not (rules.value a))) }
+{
     let term = Boxed::new(alloc, Expr::Not(value(alloc, a)?))?;
-    Ok(Some(plain(at, integer(IntegerType::Int), term)))
+    plain(alloc, at, integer(IntegerType::Int), term)
 }
 
 /// `*`.
@@ -75,20 +96,20 @@ pub fn dereference(
     faults: &mut Vec<Fault>,
     structs: &[Struct],
     at: u32,
-    a: Found,
-) -> Result<Option<Found>, AllocError>
+    a: Boxed<Found>,
+) -> Result<Option<Boxed<Found>>, AllocError>
     ensures found { IfOk result (λ found. found ≡ (rules.dereference structs.now at a).found) }
-    ensures faults { OnOk result (faults.new.items ≡ faults.old.items ++ (rules.dereference structs.now at a).faults) }
+    ensures faults { OnOk result (Notes faults.old faults.new (rules.dereference structs.now at a).faults) }
 {
     let before = faults.len();
-    let kind = kind_of(&a);
-    note_pointer(faults, a.at, kind)?;
+    let kind = kind_of(a.get());
+    note_pointer(faults, a.get().at, kind)?;
     if faults.len() > before {
         return Ok(None);
     }
     let whole = target_place(alloc, a)?;
     let inner = one_object(alloc, structs, target(kind));
-    Ok(Some(place(at, inner, whole)))
+    place(alloc, at, inner, whole).map(Some)
 }
 
 /// `&`.
@@ -97,13 +118,13 @@ pub fn address(
     alloc: Global,
     faults: &mut Vec<Fault>,
     at: u32,
-    a: Found,
-) -> Result<Option<Found>, AllocError>
+    a: Boxed<Found>,
+) -> Result<Option<Boxed<Found>>, AllocError>
     ensures found { IfOk result (λ found. found ≡ (rules.address at a).found) }
-    ensures faults { OnOk result (faults.new.items ≡ faults.old.items ++ (rules.address at a).faults) }
+    ensures faults { OnOk result (Notes faults.old faults.new (rules.address at a).faults) }
 {
-    let operand = a.at;
-    match a.form {
+    let Found { at: operand, form } = a.into_inner();
+    match form {
         Form::Zero(_) | Form::Value { .. } => {
             rule(faults, true, Kind::NotPlace, operand)?;
             Ok(None)
@@ -114,32 +135,40 @@ pub fn address(
                 return Ok(None);
             }
             let term = Boxed::new(alloc, Expr::Address(place.into_inner()))?;
-            Ok(Some(plain(at, pointer_to(kind.element), term)))
+            plain(alloc, at, pointer_to(kind.element), term).map(Some)
         }
     }
 }
 
+// The rules of a cast from one type to another.
+#[tactic(auto, using(std::proofs::Common::append_assoc))]
+fn note_cast(faults: &mut Vec<Fault>, at: u32, to: CType, from: CType) -> Result<(), AllocError>
+    ensures { OnOk result (Notes faults.old faults.new (rules.scalar_rules at from ++ breaks (not (types.is_integer to)) TypeMismatch at ++ breaks (not (types.is_integer from)) TypeMismatch at)) }
+{
+    scalar(faults, at, from)?;
+    rule(faults, !is_integer(to), Kind::TypeMismatch, at)?;
+    rule(faults, !is_integer(from), Kind::TypeMismatch, at)
+}
+
 /// A cast.
-#[tactic(auto, using(std::proofs::Common::append_assoc), unfolding(crate::specs::Rules::cast))]
+#[tactic(auto, unfolding(crate::specs::Rules::cast))]
 pub fn cast(
     alloc: Global,
     faults: &mut Vec<Fault>,
     at: u32,
     kind: CType,
-    a: Found,
-) -> Result<Option<Found>, AllocError>
+    a: Boxed<Found>,
+) -> Result<Option<Boxed<Found>>, AllocError>
     ensures found { IfOk result (λ found. found ≡ (rules.cast at kind a).found) }
-    ensures faults { OnOk result (faults.new.items ≡ faults.old.items ++ (rules.cast at kind a).faults) }
+    ensures faults { OnOk result (Notes faults.old faults.new (rules.cast at kind a).faults) }
 {
     let before = faults.len();
-    scalar(faults, at, kind_of(&a))?;
-    rule(faults, !is_integer(kind), Kind::TypeMismatch, at)?;
-    rule(faults, !is_integer(kind_of(&a)), Kind::TypeMismatch, at)?;
+    note_cast(faults, at, kind, kind_of(a.get()))?;
     if faults.len() > before {
         return Ok(None);
     }
     let term = value_in(alloc, integer_of(kind), a)?;
-    Ok(Some(plain(at, kind, term)))
+    plain(alloc, at, kind, term).map(Some)
 }
 
 /// `sizeof`.
@@ -150,14 +179,14 @@ pub fn size_of(
     structs: &[Struct],
     at: u32,
     kind: CType,
-) -> Result<Option<Found>, AllocError>
+) -> Result<Option<Boxed<Found>>, AllocError>
     ensures found { IfOk result (λ found. found ≡ (rules.size_of structs.now at kind).found) }
-    ensures faults { OnOk result (faults.new.items ≡ faults.old.items ++ (rules.size_of structs.now at kind).faults) }
+    ensures faults { OnOk result (Notes faults.old faults.new (rules.size_of structs.now at kind).faults) }
 {
     if is_incomplete(structs, kind) {
         rule(faults, true, Kind::IncompleteType, at)?;
         return Ok(None);
     }
     let size = extent_of(structs, kind).size;
-    Ok(Some(constant(alloc, at, i64::from(size), IntegerType::Long)?))
+    constant(alloc, at, i64::from(size), IntegerType::Long).map(Some)
 }

@@ -1,6 +1,7 @@
 //! The arguments of MPI's calls.
 
-ghost use Rattle.std.specs.Prelude.{◌≡◌, ◌++◌, IfOk, OnOk};
+ghost use Rattle.std.specs.Prelude.{◌≡◌, IfOk, OnOk};
+ghost use Rattle.c_rules.specs.Judged.{Notes};
 ghost use Rattle.c_rules.specs.Roles as arguments;
 
 use crate::fault::{Fault, rule};
@@ -48,7 +49,7 @@ pub fn roles_of(alloc: Global, function: MpiFunction) -> Result<Items<Role>, All
 
 // Where a pointer to objects of the type is needed, or NULL.
 fn note_pointed(faults: &mut Vec<Fault>, kind: CType, a: &Found) -> Result<(), AllocError>
-    ensures { OnOk result (faults.new.items ≡ faults.old.items ++ arguments.points_rules kind a.now) }
+    ensures { OnOk result (Notes faults.old faults.new (arguments.points_rules kind a.now)) }
 {
     let other = !are_alike(pointer_to(kind), kind_of(a));
     rule(faults, other, Kind::Datatype, a.at)
@@ -56,7 +57,7 @@ fn note_pointed(faults: &mut Vec<Fault>, kind: CType, a: &Found) -> Result<(), A
 
 #[tactic(auto, using(std::proofs::Common::append_assoc))]
 fn note_buffer(faults: &mut Vec<Fault>, kind: IntegerType, a: &Found) -> Result<(), AllocError>
-    ensures { OnOk result (faults.new.items ≡ faults.old.items ++ arguments.role_rules (Role.Buffer kind) a.now) }
+    ensures { OnOk result (Notes faults.old faults.new (arguments.role_rules (Role.Buffer kind) a.now)) }
 {
     scalar(faults, a.at, kind_of(a))?;
     rule(faults, !is_pointer(kind_of(a)), Kind::NotPointer, a.at)?;
@@ -65,7 +66,7 @@ fn note_buffer(faults: &mut Vec<Fault>, kind: IntegerType, a: &Found) -> Result<
 
 #[tactic(auto, using(std::proofs::Common::append_assoc))]
 fn note_role(faults: &mut Vec<Fault>, role: Role, a: &Found) -> Result<(), AllocError>
-    ensures { OnOk result (faults.new.items ≡ faults.old.items ++ arguments.role_rules role a.now) }
+    ensures { OnOk result (Notes faults.old faults.new (arguments.role_rules role a.now)) }
 {
     match role {
         Role::Number => number(faults, a.at, kind_of(a)),
@@ -82,16 +83,16 @@ fn note_role(faults: &mut Vec<Fault>, role: Role, a: &Found) -> Result<(), Alloc
 pub fn note_roles(
     faults: &mut Vec<Fault>,
     roles: &[Role],
-    found: &[Found],
+    found: &[Boxed<Found>],
 ) -> Result<(), AllocError>
-    ensures { OnOk result (faults.new.items ≡ faults.old.items ++ arguments.roles_rules roles.now found.now) }
+    ensures { OnOk result (Notes faults.old faults.new (arguments.roles_rules roles.now found.now)) }
 {
     let mut rest = found;
     for role in roles {
         match rest {
             [] => return Ok(()),
             [a, more @ ..] => {
-                note_role(faults, *role, a)?;
+                note_role(faults, *role, a.get())?;
                 rest = more;
             }
         }
@@ -99,7 +100,7 @@ pub fn note_roles(
     Ok(())
 }
 
-fn role_value(alloc: Global, role: Role, a: Found) -> Result<Boxed<Expr>, AllocError>
+fn role_value(alloc: Global, role: Role, a: Boxed<Found>) -> Result<Boxed<Expr>, AllocError>
     ensures { IfOk result (λ e. e ≡ arguments.role_value role a) }
 {
     match role {
@@ -112,7 +113,7 @@ fn role_value(alloc: Global, role: Role, a: Found) -> Result<Boxed<Expr>, AllocE
 pub fn roles_values(
     alloc: Global,
     roles: &[Role],
-    found: Items<Found>,
+    found: Items<Boxed<Found>>,
 ) -> Result<Items<Expr>, AllocError>
     ensures { IfOk result (λ values. values ≡ arguments.roles_values roles.now found) }
 {

@@ -3,7 +3,7 @@
 ghost use Rattle.std.specs.Prelude.{◌≡◌, ◌++◌, ◌&&◌, not, IfOk, OnOk, option_map};
 ghost use Rattle.std.specs.Str.{bytes_eq};
 ghost use Rattle.c_tree.specs.declared.kind.Kind.TheVariants.{NotStruct};
-ghost use Rattle.c_rules.specs.Judged.{breaks};
+ghost use Rattle.c_rules.specs.Judged.{Notes, breaks};
 ghost use Rattle.c_rules.specs.Rules as rules;
 ghost use Rattle.c_rules.specs.Types as types;
 
@@ -30,7 +30,7 @@ fn is_array_found(a: &Found) -> bool
 }
 
 fn note_base(faults: &mut Vec<Fault>, a: &Found) -> Result<(), AllocError>
-    ensures { OnOk result (faults.new.items ≡ faults.old.items ++ rules.base_rules a.now) }
+    ensures { OnOk result (Notes faults.old faults.new (rules.base_rules a.now)) }
 {
     if is_array_found(a) {
         return Ok(());
@@ -45,31 +45,31 @@ fn element_of_array(
     kind: &ObjectType,
     array: Boxed<Place<Expr>>,
     index: Boxed<Expr>,
-) -> Result<Found, AllocError>
+) -> Result<Boxed<Found>, AllocError>
     ensures { IfOk result (λ found. found ≡ rules.place at (types.element kind.now) (rules.element_place kind.now array index)) }
 {
     let inner = element_place(alloc, kind, array, index)?;
-    Ok(place(at, element(alloc, kind)?, inner))
+    place(alloc, at, element(alloc, kind)?, inner)
 }
 
 // An element from where a pointer points on.
 fn element_from(
     alloc: Global,
     structs: &[Struct],
-    a: Found,
+    a: Boxed<Found>,
     index: Boxed<Expr>,
-) -> Result<Found, AllocError>
+) -> Result<Boxed<Found>, AllocError>
     ensures { IfOk result (λ found. found ≡ rules.place a.at (types.one_object structs.now (types.target (rules.kind_of a))) (rules.step_to (rules.target_place a) (Selection.Element index (types.element_cells structs.now (types.target (rules.kind_of a)))))) }
 {
-    let at = a.at;
-    let kind = target(kind_of(&a));
+    let at = a.get().at;
+    let kind = target(kind_of(a.get()));
     let whole = target_place(alloc, a)?;
     let step = Selection::Element {
         index: index.into_inner(),
         cells: element_cells(structs, kind),
     };
     let inner = step_to(alloc, whole, step)?;
-    Ok(place(at, one_object(alloc, structs, kind), inner))
+    place(alloc, at, one_object(alloc, structs, kind), inner)
 }
 
 // An element of an array, or from where the pointer at a place points on.
@@ -80,28 +80,32 @@ fn element_at(
     kind: ObjectType,
     place: Boxed<Place<Expr>>,
     index: Boxed<Expr>,
-) -> Result<Found, AllocError>
+) -> Result<Boxed<Found>, AllocError>
     ensures { IfOk result (λ found. found ≡ rules.element_found structs.now (rules.place at kind place) index) }
 {
     if is_array(&kind) {
         return element_of_array(alloc, at, &kind, place, index);
     }
     let form = Form::Place { kind, place };
-    element_from(alloc, structs, Found { at, form }, index)
+    let pointer = Boxed::new(alloc, Found { at, form })?;
+    element_from(alloc, structs, pointer, index)
 }
 
 fn element_found(
     alloc: Global,
     structs: &[Struct],
-    a: Found,
+    a: Boxed<Found>,
     index: Boxed<Expr>,
-) -> Result<Found, AllocError>
+) -> Result<Boxed<Found>, AllocError>
     ensures { IfOk result (λ found. found ≡ rules.element_found structs.now a index) }
 {
-    let at = a.at;
-    match a.form {
+    let Found { at, form } = a.into_inner();
+    match form {
         Form::Place { kind, place } => element_at(alloc, structs, at, kind, place, index),
-        form => element_from(alloc, structs, Found { at, form }, index),
+        form => {
+            let pointer = Boxed::new(alloc, Found { at, form })?;
+            element_from(alloc, structs, pointer, index)
+        }
     }
 }
 
@@ -111,20 +115,20 @@ pub fn index(
     alloc: Global,
     faults: &mut Vec<Fault>,
     structs: &[Struct],
-    a: Found,
-    i: Found,
-) -> Result<Option<Found>, AllocError>
+    a: Boxed<Found>,
+    i: Boxed<Found>,
+) -> Result<Option<Boxed<Found>>, AllocError>
     ensures found { IfOk result (λ found. found ≡ (rules.index structs.now a i).found) }
-    ensures faults { OnOk result (faults.new.items ≡ faults.old.items ++ (rules.index structs.now a i).faults) }
+    ensures faults { OnOk result (Notes faults.old faults.new (rules.index structs.now a i).faults) }
 {
     let before = faults.len();
-    note_base(faults, &a)?;
-    number(faults, i.at, kind_of(&i))?;
+    note_base(faults, a.get())?;
+    number(faults, i.get().at, kind_of(i.get()))?;
     if faults.len() > before {
         return Ok(None);
     }
     let i = value(alloc, i)?;
-    Ok(Some(element_found(alloc, structs, a, i)?))
+    element_found(alloc, structs, a, i).map(Some)
 }
 
 // A member by its name, with its number.
@@ -190,9 +194,9 @@ fn selected(
     kind: CType,
     whole: Boxed<Place<Expr>>,
     name: &MemberName,
-) -> Result<Option<Found>, AllocError>
+) -> Result<Option<Boxed<Found>>, AllocError>
     ensures found { IfOk result (λ found. found ≡ (rules.selected structs.now at kind whole name.now).found) }
-    ensures faults { OnOk result (faults.new.items ≡ faults.old.items ++ (rules.selected structs.now at kind whole name.now).faults) }
+    ensures faults { OnOk result (Notes faults.old faults.new (rules.selected structs.now at kind whole name.now).faults) }
 {
     match member_in(structs, kind, name) {
         None => {
@@ -206,16 +210,16 @@ fn selected(
                 place: found.place,
             };
             let inner = step_to(alloc, whole, step)?;
-            Ok(Some(place(at, found.kind.copy(alloc)?, inner)))
+            place(alloc, at, found.kind.copy(alloc)?, inner).map(Some)
         }
     }
 }
 
 // The struct that is a place.
-fn struct_place(a: Found) -> Option<(CType, Boxed<Place<Expr>>)>
+fn struct_place(a: Boxed<Found>) -> Option<(CType, Boxed<Place<Expr>>)>
     ensures { result ≡ rules.struct_place a }
 {
-    match a.form {
+    match a.into_inner().form {
         Form::Zero(_) | Form::Value { .. } => None,
         Form::Place { kind, place } => {
             if !is_array(&kind) && is_struct(kind.element) {
@@ -233,13 +237,13 @@ pub fn dot(
     alloc: Global,
     faults: &mut Vec<Fault>,
     structs: &[Struct],
-    a: Found,
+    a: Boxed<Found>,
     name: &MemberName,
-) -> Result<Option<Found>, AllocError>
+) -> Result<Option<Boxed<Found>>, AllocError>
     ensures found { IfOk result (λ found. found ≡ (rules.dot structs.now a name.now).found) }
-    ensures faults { OnOk result (faults.new.items ≡ faults.old.items ++ (rules.dot structs.now a name.now).faults) }
+    ensures faults { OnOk result (Notes faults.old faults.new (rules.dot structs.now a name.now).faults) }
 {
-    let at = a.at;
+    let at = a.get().at;
     match struct_place(a) {
         None => {
             rule(faults, true, Kind::NotStruct, at)?;
@@ -250,7 +254,7 @@ pub fn dot(
 }
 
 fn note_arrow(faults: &mut Vec<Fault>, at: u32, kind: CType) -> Result<(), AllocError>
-    ensures { OnOk result (faults.new.items ≡ faults.old.items ++ (rules.pointer_rules at kind ++ breaks (types.is_target kind && not (types.is_struct (types.target kind))) NotStruct at)) }
+    ensures { OnOk result (Notes faults.old faults.new (rules.pointer_rules at kind ++ breaks (types.is_target kind && not (types.is_struct (types.target kind))) NotStruct at)) }
 {
     note_pointer(faults, at, kind)?;
     let other = is_target(kind) && !is_struct(target(kind));
@@ -263,14 +267,14 @@ pub fn arrow(
     alloc: Global,
     faults: &mut Vec<Fault>,
     structs: &[Struct],
-    a: Found,
+    a: Boxed<Found>,
     name: &MemberName,
-) -> Result<Option<Found>, AllocError>
+) -> Result<Option<Boxed<Found>>, AllocError>
     ensures found { IfOk result (λ found. found ≡ (rules.arrow structs.now a name.now).found) }
-    ensures faults { OnOk result (faults.new.items ≡ faults.old.items ++ (rules.arrow structs.now a name.now).faults) }
+    ensures faults { OnOk result (Notes faults.old faults.new (rules.arrow structs.now a name.now).faults) }
 {
-    let at = a.at;
-    let kind = kind_of(&a);
+    let at = a.get().at;
+    let kind = kind_of(a.get());
     let before = faults.len();
     note_arrow(faults, at, kind)?;
     if faults.len() > before {

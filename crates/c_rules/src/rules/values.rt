@@ -1,6 +1,7 @@
 //! What is found, and its value.
 
-ghost use Rattle.std.specs.Prelude.{◌≡◌, [], ◌++◌, pos, IfOk, OnOk};
+ghost use Rattle.std.specs.Prelude.{◌≡◌, [], pos, IfOk, OnOk};
+ghost use Rattle.c_rules.specs.Judged.{Notes};
 ghost use Rattle.c_rules.specs.Rules as rules;
 ghost use Rattle.c_rules.specs.declared.found.Form.TheVariants as form;
 ghost use Rattle.c_rules.specs.Types as types;
@@ -18,23 +19,29 @@ use sqlite_items::{Boxed, Items};
 use std::alloc::{AllocError, Global};
 
 /// An expression that is no place.
-pub fn plain(at: u32, kind: CType, term: Boxed<Expr>) -> Found
-    ensures { result ≡ rules.plain at kind term }
+pub fn plain(
+    alloc: Global,
+    at: u32,
+    kind: CType,
+    term: Boxed<Expr>,
+) -> Result<Boxed<Found>, AllocError>
+    ensures { IfOk result (λ found. found ≡ rules.plain at kind term) }
 {
-    Found {
-        at,
-        form: Form::Value { kind, term },
-    }
+    let form = Form::Value { kind, term };
+    Boxed::new(alloc, Found { at, form })
 }
 
 /// A place, with the type of what stands there.
-pub fn place(at: u32, kind: ObjectType, place: Boxed<Place<Expr>>) -> Found
-    ensures { result ≡ rules.place at kind place }
+pub fn place(
+    alloc: Global,
+    at: u32,
+    kind: ObjectType,
+    place: Boxed<Place<Expr>>,
+) -> Result<Boxed<Found>, AllocError>
+    ensures { IfOk result (λ found. found ≡ rules.place at kind place) }
 {
-    Found {
-        at,
-        form: Form::Place { kind, place },
-    }
+    let form = Form::Place { kind, place };
+    Boxed::new(alloc, Found { at, form })
 }
 
 /// The type of its value.
@@ -79,10 +86,10 @@ fn pointed(alloc: Global, pointer: Boxed<Expr>) -> Place<Expr>
 }
 
 /// What a pointer points to.
-pub fn target_place(alloc: Global, a: Found) -> Result<Boxed<Place<Expr>>, AllocError>
+pub fn target_place(alloc: Global, a: Boxed<Found>) -> Result<Boxed<Place<Expr>>, AllocError>
     ensures { IfOk result (λ place. place ≡ rules.target_place a) }
 {
-    match a.form {
+    match a.into_inner().form {
         Form::Zero(kind) => {
             let pointer = zero(alloc, kind)?;
             Boxed::new(alloc, pointed(alloc, pointer))
@@ -175,10 +182,10 @@ pub fn zero(alloc: Global, kind: IntegerType) -> Result<Boxed<Expr>, AllocError>
 }
 
 /// The value of an expression.
-pub fn value(alloc: Global, a: Found) -> Result<Boxed<Expr>, AllocError>
+pub fn value(alloc: Global, a: Boxed<Found>) -> Result<Boxed<Expr>, AllocError>
     ensures { IfOk result (λ e. e ≡ rules.value a) }
 {
-    match a.form {
+    match a.into_inner().form {
         Form::Zero(kind) => zero(alloc, kind),
         Form::Value { term, .. } => Ok(term),
         Form::Place { kind, place } => value_at(alloc, kind, place),
@@ -186,18 +193,22 @@ pub fn value(alloc: Global, a: Found) -> Result<Boxed<Expr>, AllocError>
 }
 
 /// The value of an expression in an integer type.
-pub fn value_in(alloc: Global, kind: IntegerType, a: Found) -> Result<Boxed<Expr>, AllocError>
+pub fn value_in(
+    alloc: Global,
+    kind: IntegerType,
+    a: Boxed<Found>,
+) -> Result<Boxed<Expr>, AllocError>
     ensures { IfOk result (λ e. e ≡ rules.value_in kind a) }
 {
-    let from = integer_of(kind_of(&a));
+    let from = integer_of(kind_of(a.get()));
     converted(alloc, kind, from, value(alloc, a)?)
 }
 
 /// The value of an expression where it is to be a pointer.
-pub fn pointer(alloc: Global, a: Found) -> Result<Boxed<Expr>, AllocError>
+pub fn pointer(alloc: Global, a: Boxed<Found>) -> Result<Boxed<Expr>, AllocError>
     ensures { IfOk result (λ e. e ≡ rules.pointer_value a) }
 {
-    if is_zero(&a) {
+    if is_zero(a.get()) {
         Boxed::new(alloc, Expr::Null)
     } else {
         value(alloc, a)
@@ -205,7 +216,7 @@ pub fn pointer(alloc: Global, a: Found) -> Result<Boxed<Expr>, AllocError>
 }
 
 /// The value of an expression in a type.
-pub fn value_as(alloc: Global, kind: CType, a: Found) -> Result<Boxed<Expr>, AllocError>
+pub fn value_as(alloc: Global, kind: CType, a: Boxed<Found>) -> Result<Boxed<Expr>, AllocError>
     ensures { IfOk result (λ e. e ≡ rules.value_as kind a) }
 {
     if is_pointer(kind) {
@@ -217,7 +228,7 @@ pub fn value_as(alloc: Global, kind: CType, a: Found) -> Result<Boxed<Expr>, All
 
 /// Where a number or pointer is needed.
 pub fn scalar(faults: &mut Vec<Fault>, at: u32, kind: CType) -> Result<(), AllocError>
-    ensures { OnOk result (faults.new.items ≡ faults.old.items ++ rules.scalar_rules at kind) }
+    ensures { OnOk result (Notes faults.old faults.new (rules.scalar_rules at kind)) }
 {
     rule(faults, !is_scalar(kind), Kind::NotScalar, at)
 }
@@ -225,7 +236,7 @@ pub fn scalar(faults: &mut Vec<Fault>, at: u32, kind: CType) -> Result<(), Alloc
 /// Where a number is needed.
 #[tactic(auto, using(std::proofs::Common::append_assoc))]
 pub fn number(faults: &mut Vec<Fault>, at: u32, kind: CType) -> Result<(), AllocError>
-    ensures { OnOk result (faults.new.items ≡ faults.old.items ++ rules.number_rules at kind) }
+    ensures { OnOk result (Notes faults.old faults.new (rules.number_rules at kind)) }
 {
     scalar(faults, at, kind)?;
     rule(faults, !is_integer(kind), Kind::NotInteger, at)
@@ -234,7 +245,7 @@ pub fn number(faults: &mut Vec<Fault>, at: u32, kind: CType) -> Result<(), Alloc
 /// Where a pointer to something is needed.
 #[tactic(auto, using(std::proofs::Common::append_assoc))]
 pub fn note_pointer(faults: &mut Vec<Fault>, at: u32, kind: CType) -> Result<(), AllocError>
-    ensures { OnOk result (faults.new.items ≡ faults.old.items ++ rules.pointer_rules at kind) }
+    ensures { OnOk result (Notes faults.old faults.new (rules.pointer_rules at kind)) }
 {
     scalar(faults, at, kind)?;
     rule(faults, !is_target(kind), Kind::NotPointer, at)
@@ -260,7 +271,7 @@ pub fn clash(t: CType, zero: bool, u: CType) -> bool
 /// Where a value of a type is needed.
 #[tactic(auto, using(std::proofs::Common::append_assoc))]
 pub fn note_value(faults: &mut Vec<Fault>, kind: CType, a: &Found) -> Result<(), AllocError>
-    ensures { OnOk result (faults.new.items ≡ faults.old.items ++ rules.value_rules kind a.now) }
+    ensures { OnOk result (Notes faults.old faults.new (rules.value_rules kind a.now)) }
 {
     scalar(faults, a.at, kind_of(a))?;
     let clash = clash(kind, is_zero(a), kind_of(a));
@@ -270,34 +281,43 @@ pub fn note_value(faults: &mut Vec<Fault>, kind: CType, a: &Found) -> Result<(),
 // ---- constants
 
 /// A number of the type.
-pub fn constant(alloc: Global, at: u32, value: i64, kind: IntegerType) -> Result<Found, AllocError>
+pub fn constant(
+    alloc: Global,
+    at: u32,
+    value: i64,
+    kind: IntegerType,
+) -> Result<Boxed<Found>, AllocError>
     ensures { IfOk result (λ found. found ≡ rules.constant at value kind) }
 {
     let term = Boxed::new(alloc, Expr::Number { value, kind })?;
-    Ok(plain(at, integer(kind), term))
+    plain(alloc, at, integer(kind), term)
 }
 
 /// A number as it is written.
-pub fn literal(alloc: Global, at: u32, value: u64, kind: IntegerType) -> Result<Found, AllocError>
+pub fn literal(
+    alloc: Global,
+    at: u32,
+    value: u64,
+    kind: IntegerType,
+) -> Result<Boxed<Found>, AllocError>
     ensures { IfOk result (λ found. found ≡ rules.literal at value kind) }
 {
     if value == 0 {
-        Ok(Found {
-            at,
-            form: Form::Zero(kind),
-        })
+        let form = Form::Zero(kind);
+        Boxed::new(alloc, Found { at, form })
     } else {
         constant(alloc, at, value.cast_signed(), kind)
     }
 }
 
 /// `NULL`.
-pub fn null(alloc: Global, at: u32) -> Result<Found, AllocError>
+pub fn null(alloc: Global, at: u32) -> Result<Boxed<Found>, AllocError>
     ensures { IfOk result (λ found. found ≡ rules.plain at types.null_type Expr.Null) }
 {
     let kind = CType {
         base: Base::Void,
         stars: 1,
     };
-    Ok(plain(at, kind, Boxed::new(alloc, Expr::Null)?))
+    let term = Boxed::new(alloc, Expr::Null)?;
+    plain(alloc, at, kind, term)
 }
