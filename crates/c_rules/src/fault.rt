@@ -7,7 +7,7 @@ use c_tree::Kind;
 use std::alloc::AllocError;
 
 /// A broken rule, and the place that breaks it.
-#[derive(Clone, Copy, PartialEq, Eq, Debug)]
+#[derive(Clone, Copy)]
 pub struct Fault {
     pub kind: Kind,
     pub at: u32,

@@ -1,6 +1,7 @@
 //! Operators of two operands, grouped from the left (C99 6.5.5 to 6.5.14).
 
-ghost use Rattle.std.specs.Prelude.{◌≡◌, ◌++◌, IfOk, OnOk, if◌then◌else◌};
+ghost use Rattle.std.specs.Prelude.{◌≡◌, ◌++◌, None, IfOk, OnOk, if◌then◌else◌};
+ghost use Rattle.c_kernel.specs.declared.types.IntegerType.TheVariants.{Int};
 ghost use Rattle.c_rules.specs.Judged.{Notes};
 ghost use Rattle.c_rules.specs.Rules as rules;
 ghost use Rattle.c_rules.specs.Types as types;
@@ -452,6 +453,22 @@ pub fn comparison(
     compared(alloc, operator, a, b).map(Some)
 }
 
+fn joined(
+    alloc: Global,
+    operator: BinaryOperator,
+    a: Boxed<Run>,
+    b: Boxed<Found>,
+) -> Result<Boxed<Run>, AllocError>
+    ensures { IfOk result (λ run. run ≡ rules.extended a (types.integer Int) (record { conversion = None; operator = operator; operand = rules.value b })) }
+{
+    let link = Link {
+        conversion: None,
+        operator,
+        operand: value(alloc, b)?.into_inner(),
+    };
+    extended(alloc, a, integer(IntegerType::Int), link)
+}
+
 /// `&&` or `||`.
 #[tactic(auto, unfolding(crate::specs::Rules::logical))]
 pub fn logical(
@@ -469,11 +486,5 @@ pub fn logical(
     if faults.len() > before {
         return Ok(None);
     }
-    let operand = value(alloc, b)?.into_inner();
-    let link = Link {
-        conversion: None,
-        operator,
-        operand,
-    };
-    extended(alloc, a, integer(IntegerType::Int), link).map(Some)
+    joined(alloc, operator, a, b).map(Some)
 }

@@ -107,9 +107,22 @@ pub fn dereference(
     if faults.len() > before {
         return Ok(None);
     }
+    pointed(alloc, structs, at, kind, a).map(Some)
+}
+
+// What a pointer of the type points to.
+fn pointed(
+    alloc: Global,
+    structs: &[Struct],
+    at: u32,
+    kind: CType,
+    a: Boxed<Found>,
+) -> Result<Boxed<Found>, AllocError>
+    ensures { IfOk result (λ found. found ≡ rules.place at (types.one_object structs.now (types.target kind)) (rules.target_place a)) }
+{
     let whole = target_place(alloc, a)?;
     let inner = one_object(alloc, structs, target(kind));
-    place(alloc, at, inner, whole).map(Some)
+    place(alloc, at, inner, whole)
 }
 
 /// `&`.

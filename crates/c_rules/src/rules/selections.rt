@@ -109,8 +109,28 @@ fn element_found(
     }
 }
 
+fn indexed(
+    alloc: Global,
+    structs: &[Struct],
+    a: Boxed<Found>,
+    i: Boxed<Found>,
+) -> Result<Boxed<Found>, AllocError>
+    ensures { IfOk result (λ found. found ≡ rules.element_found structs.now a (rules.value i)) }
+{
+    let i = value(alloc, i)?;
+    element_found(alloc, structs, a, i)
+}
+
+#[tactic(auto, using(std::proofs::Common::append_assoc))]
+fn note_index(faults: &mut Vec<Fault>, a: &Found, i: &Found) -> Result<(), AllocError>
+    ensures { OnOk result (Notes faults.old faults.new (rules.base_rules a.now ++ rules.number_rules i.now.at (rules.kind_of i.now))) }
+{
+    note_base(faults, a)?;
+    number(faults, i.at, kind_of(i))
+}
+
 /// `a[i]`.
-#[tactic(auto, using(std::proofs::Common::append_assoc), unfolding(crate::specs::Rules::index))]
+#[tactic(auto, unfolding(crate::specs::Rules::index))]
 pub fn index(
     alloc: Global,
     faults: &mut Vec<Fault>,
@@ -122,13 +142,11 @@ pub fn index(
     ensures faults { OnOk result (Notes faults.old faults.new (rules.index structs.now a i).faults) }
 {
     let before = faults.len();
-    note_base(faults, a.get())?;
-    number(faults, i.get().at, kind_of(i.get()))?;
+    note_index(faults, a.get(), i.get())?;
     if faults.len() > before {
         return Ok(None);
     }
-    let i = value(alloc, i)?;
-    element_found(alloc, structs, a, i).map(Some)
+    indexed(alloc, structs, a, i).map(Some)
 }
 
 // A member by its name, with its number.

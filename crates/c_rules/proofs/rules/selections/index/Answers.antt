@@ -1,0 +1,8 @@
+use Rattle.std.proofs.Common.{arith, sym}
+use Rattle.c_rules.specs.Rules.{index}
+use Rattle.c_rules.proofs.Noted.{none_found}
+use Rattle.c_rules.proofs.rules.selections.index.Goals as goal
+
+pub returns-then-len-before-clause-found : goal.returns-then-len-before-clause-found
+unfolding index
+returns-then-len-before-clause-found c = rw (sym c.get.ensures, sym c.get-2.ensures) (none_found c.args.faults.now.items c.note_index.new.faults.items _ _ c.in_ok-note_index.ensures (omega (arith, c.len-before.ensures, c.len.ensures)))
