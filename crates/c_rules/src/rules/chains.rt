@@ -29,17 +29,14 @@ pub fn begin(alloc: Global, a: Boxed<Found>) -> Result<Boxed<Run>, AllocError>
     let kind = kind_of(a.get());
     let zero = is_zero(a.get());
     let first = value(alloc, a)?;
-    let rest = Items::new(alloc);
-    Boxed::new(
-        alloc,
-        Run {
-            at,
-            kind,
-            zero,
-            first,
-            rest,
-        },
-    )
+    let run = Run {
+        at,
+        kind,
+        zero,
+        first,
+        rest: Items::new(alloc),
+    };
+    Boxed::new(alloc, run)
 }
 
 /// A chain as an expression.
@@ -49,9 +46,9 @@ pub fn closed(alloc: Global, a: Boxed<Run>) -> Result<Boxed<Found>, AllocError>
     let Run {
         at,
         kind,
-        zero: _,
         first,
         rest,
+        ..
     } = a.into_inner();
     let term = Boxed::new(alloc, Expr::Chain { first, rest })?;
     plain(alloc, at, kind, term)
@@ -66,24 +63,11 @@ fn extended(
 ) -> Result<Boxed<Run>, AllocError>
     ensures { IfOk result (λ run. run ≡ rules.extended a kind link) }
 {
-    let Run {
-        at,
-        kind: _,
-        zero: _,
-        first,
-        mut rest,
-    } = a.into_inner();
-    rest.push(link)?;
-    Boxed::new(
-        alloc,
-        Run {
-            at,
-            kind,
-            zero: false,
-            first,
-            rest,
-        },
-    )
+    let mut run = a.into_inner();
+    run.kind = kind;
+    run.zero = false;
+    run.rest.push(link)?;
+    Boxed::new(alloc, run)
 }
 
 // The literal 0 as a pointer.
@@ -94,23 +78,11 @@ fn as_pointer(alloc: Global, a: Boxed<Run>) -> Result<Boxed<Run>, AllocError>
         return Ok(a);
     }
     let first = Boxed::new(alloc, Expr::Null)?;
-    let Run {
-        at,
-        kind,
-        zero,
-        first: _,
-        rest,
-    } = a.into_inner();
-    Boxed::new(
-        alloc,
-        Run {
-            at,
-            kind,
-            zero,
-            first,
-            rest,
-        },
-    )
+    let run = Run {
+        first,
+        ..a.into_inner()
+    };
+    Boxed::new(alloc, run)
 }
 
 // ---- rules of two operands
