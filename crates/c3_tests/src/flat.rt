@@ -1,9 +1,8 @@
-//! Flat code and what it is passed to, a word an instruction.
+//! Flat code, a word an instruction.
 
 use c_check::check;
 use c_parse::parse;
 use ccift_lower::lower;
-use ccift_pass::pass;
 use flat_code::{Code, Instr};
 use sqlite_items::Boxed;
 use std::alloc::Global;
@@ -65,12 +64,6 @@ fn code_of(alloc: Global, text: &[u8]) -> Result<Boxed<Code>, Fail> {
     Ok(Boxed::new(alloc, lower(alloc, program.get())?)?)
 }
 
-/// What it is passed to.
-fn passed_of(alloc: Global, text: &[u8]) -> Result<Boxed<Code>, Fail> {
-    let code = code_of(alloc, text)?;
-    Ok(Boxed::new(alloc, pass(alloc, code.get())?)?)
-}
-
 /// Each line is a program after the front, and after its `@` its flat code.
 fn assert_lowered(rt: &impl Abort, alloc: Global, front: &str, table: &str) -> Result<(), Fail> {
     for line in table.trim().lines() {
@@ -122,21 +115,4 @@ while(x){while(x)break;break;}}@step step zero0 step unless14 step step unless11
 while(x)return 1;}@step step zero0 step unless8 step return= goto4 return=
 "#;
     assert_lowered(&rt, rt.alloc(), "int main(void){int x;", table)
-}
-
-#[test]
-fn code_is_passed(rt: HostRuntime) -> Result<(), Fail> {
-    let table = r#"
-int main(void){potentialCheckpoint();return 0;}@enter0,1:4 step step push1 mark1 pop step leave return= leave return=
-void f(void){potentialCheckpoint();}int main(void){f();}@enter0,1:4 step step push1 mark1 pop leave return | enter0,2:4 step step push2 call0 pop leave return=
-int main(void){int x;while(x)potentialCheckpoint();}@enter1,1:8 step step zero0 step unless11 step push1 mark1 pop goto5 leave return=
-int f(void){return 1;}int main(void){int x;if(x)x=f();else x=2;}@enter0 step step leave return= leave return= | enter1,1:8 step step zero0 step unless11 step push1 call0= pop goto13 step set leave return=
-"#;
-    for line in table.trim().lines() {
-        let (text, expected) = line.split_once('@').expect(&rt, "a marked line");
-        let code = passed_of(rt.alloc(), text.as_bytes())?;
-        let shown = shown(rt.alloc(), code.get())?;
-        assert_eq!(rt; shown.as_str().trim_start(), expected, "at {line}");
-    }
-    Ok(())
 }

@@ -14,6 +14,8 @@ mod long;
 #[cfg(test)]
 mod messages;
 #[cfg(test)]
+mod passed;
+#[cfg(test)]
 mod pointers;
 #[cfg(test)]
 mod queues;

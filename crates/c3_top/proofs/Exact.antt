@@ -15,7 +15,7 @@ use Rattle.plain_job.specs.Job.{Job, start_job}
 use Rattle.plain_job.specs.Turn.{AreTurns}
 use Rattle.plain_job.proofs.Runs.{turns_same}
 use Rattle.c3_top.specs.declared.command.Command.{Command}
-use Rattle.c3_top.specs.declared.command.Command.TheVariants.{Plain, Check}
+use Rattle.c3_top.specs.declared.command.Command.TheVariants.{Plain, Check, Pass}
 use Rattle.c3_top.specs.declared.status.Status.{Status}
 use Rattle.c3_top.specs.declared.status.Status.TheVariants.{Done, Unfinished, Usage, Refused, BadSchedule, TooMany, InputLimit, ReadFault, WriteFault, NoMemory}
 use Rattle.c3_top.specs.Command.{IsCommand, IsNoCommand}
@@ -69,6 +69,7 @@ by_schedule (schedule.TooMany count) v ended = TooMany count
 abbrev EndsSo : Command → List ℕ → Bool → Type 0
 EndsSo (Plain ranks) i ended = (job : Job) × IsRun ranks job i × (all_ended job.ranks ≡ ended)
 EndsSo Check i ended = ended ≡ true
+EndsSo Pass i ended = ended ≡ true
 
 abbrev RunsSo : Command → List ℕ → Verdict → Bool → Type 0
 RunsSo c i (Accepted p) ended = EndsSo c i ended
@@ -94,10 +95,12 @@ run_grounds n i job ended s r e told = record { short = r.short; answer = Whole 
 done_grounds : (c : Command) (i : List ℕ) → IsDone c i → Grounds c i Done
 done_grounds (Plain n) i h = run_grounds n i h.0 true Done h.1 h.2 refl
 done_grounds Check i h = record { short = h.0; answer = Whole h.1.0; read = h.1.1; verdict = Accepted h.2.0; ended = true; so = (h.2.1, refl); told = refl }
+done_grounds Pass i h = record { short = h.0; answer = Whole h.1.0; read = h.1.1; verdict = Accepted h.2.0; ended = true; so = (h.2.1, refl); told = refl }
 
 left_grounds : (c : Command) (i : List ℕ) → IsLeft c i → Grounds c i Unfinished
 left_grounds (Plain n) i h = run_grounds n i h.0 false Unfinished h.1 h.2 refl
 left_grounds Check i h = absurd h
+left_grounds Pass i h = absurd h
 
 refused_grounds : (c : Command) (i : List ℕ) (kind : Kind) (at : ℕ) → IsRefused kind at i → Grounds c i (Refused kind at)
 refused_grounds c i kind at h = record { short = h.0; answer = Whole h.1.0; read = h.1.1; verdict = checked.Refused kind at; ended = false; so = (h.2, tt); told = refl }
@@ -125,6 +128,7 @@ one_job ranks i a b h k =
 one_end : (c : Command) (i : List ℕ) (x y : Bool) → EndsSo c i x → EndsSo c i y → x ≡ y
 one_end (Plain n) i x y h k = sym h.2 ∙ ap (λ (j : Job). all_ended j.ranks) (one_job n i h.0 k.0 h.1 k.1) ∙ k.2
 one_end Check i x y h k = h ∙ sym k
+one_end Pass i x y h k = h ∙ sym k
 
 by_same_text : (c : Command) (i : List ℕ) (v : Verdict) (x y : Bool) → RunsSo c i v x → RunsSo c i v y → by_text v x ≡ by_text v y
 by_same_text c i (Accepted p) x y h k = ap by_end (one_end c i x y h k)
@@ -184,10 +188,12 @@ Due words i _ = ⊥
 is_done : (c : Command) (text i : List ℕ) → IsResult Done c text i → IsDone c i
 is_done (Plain n) text i h = (h.0, h.1, h.2)
 is_done Check text i h = h.0
+is_done Pass text i h = (h.1.0, h.1.1, (h.0, h.1.2))
 
 is_left : (c : Command) (text i : List ℕ) → IsResult Unfinished c text i → IsLeft c i
 is_left (Plain n) text i h = (h.0, h.1, h.2)
 is_left Check text i h = h
+is_left Pass text i h = h
 
 of_input : (P : List ℕ → Type 0) (i : List ℕ) → OfInput (Some i) P → P i
 of_input P i h = subst P h.1 h.2

@@ -13,9 +13,12 @@ use Rattle.job_schedule.specs.Schedule as schedule
 use Rattle.plain_job.specs.Job.{Job, IsReached, start_job}
 use Rattle.plain_job.specs.Turn.{AreTurns}
 use Rattle.c3_top.specs.declared.command.Command.{Command}
-use Rattle.c3_top.specs.declared.command.Command.TheVariants.{Plain, Check}
+use Rattle.c3_top.specs.declared.command.Command.TheVariants.{Plain, Check, Pass}
 use Rattle.c3_top.specs.declared.status.Status.{Status}
 use Rattle.c3_top.specs.declared.status.Status.TheVariants.{Done, Unfinished, Usage, Refused, BadSchedule, TooMany, InputLimit, ReadFault, WriteFault, NoMemory}
+use Rattle.flat_code.specs.Text.{code_text}
+use Rattle.ccift_lower.specs.Lowered.{lowered}
+use Rattle.ccift_pass.specs.Passed.{passed}
 use Rattle.c3_top.specs.Command.{IsCommand, IsNoCommand}
 use Rattle.c3_top.specs.Input.{Parts, parts_of, turn_in}
 use Rattle.c3_top.specs.Text.{IsProgram, IsNoProgram}
@@ -54,6 +57,14 @@ HasSchedule parts = (entries : List Entry) × Reads parts.schedule (Whole entrie
 abbrev pub IsAccepted : List ℕ → Type 0
 IsAccepted bytes = (length bytes ≤ input_limit) × HasSchedule (parts_of bytes) × ((p : Program) × IsProgram (parts_of bytes).text p)
 
+-- the same, whose text is this program
+abbrev pub HasProgram : Program → List ℕ → Type 0
+HasProgram p bytes = (length bytes ≤ input_limit) × HasSchedule (parts_of bytes) × IsProgram (parts_of bytes).text p
+
+-- the text of a program's code with what saves and restores where it stands
+abbrev pub passed_text : Program → List ℕ
+passed_text p = code_text (passed (lowered p))
+
 -- an input within the limit, with a schedule, whose text is no program
 abbrev pub IsRefused : Kind → ℕ → List ℕ → Type 0
 IsRefused kind at bytes = (length bytes ≤ input_limit) × HasSchedule (parts_of bytes) × IsNoProgram (parts_of bytes).text kind at
@@ -69,8 +80,10 @@ IsTooMany count bytes = (length bytes ≤ input_limit) × Reads (parts_of bytes)
 abbrev pub IsResult : Status → Command → List ℕ → List ℕ → Type 0
 IsResult Done (Plain ranks) text bytes = (job : Job) × IsRun ranks job bytes × (all_ended job.ranks ≡ true) × (text ≡ finished_from 0 job.ranks)
 IsResult Done Check text bytes = IsAccepted bytes × (text ≡ codes "accepted\n")
+IsResult Done Pass text bytes = (p : Program) × HasProgram p bytes × (text ≡ passed_text p)
 IsResult Unfinished (Plain ranks) text bytes = (job : Job) × IsRun ranks job bytes × (all_ended job.ranks ≡ false) × (text ≡ unfinished_from 0 job.ranks)
 IsResult Unfinished Check text bytes = ⊥
+IsResult Unfinished Pass text bytes = ⊥
 IsResult (BadSchedule at) c text bytes = IsBadSchedule at bytes × (text ≡ codes "bad schedule at " ++ decimal at ++ codes "\n")
 IsResult (TooMany count) c text bytes = IsTooMany count bytes × (text ≡ codes "too many events " ++ decimal count ++ codes "\n")
 IsResult (Refused kind at) c text bytes = IsRefused kind at bytes × (text ≡ refusal kind at)
@@ -101,11 +114,13 @@ IsDue words input before now status text = (c : Command) × IsCommand words c ×
 abbrev pub IsDone : Command → List ℕ → Type 0
 IsDone (Plain ranks) input = (job : Job) × IsRun ranks job input × (all_ended job.ranks ≡ true)
 IsDone Check input = IsAccepted input
+IsDone Pass input = IsAccepted input
 
 -- some rank of the run hasn't ended
 abbrev pub IsLeft : Command → List ℕ → Type 0
 IsLeft (Plain ranks) input = (job : Job) × IsRun ranks job input × (all_ended job.ranks ≡ false)
 IsLeft Check input = ⊥
+IsLeft Pass input = ⊥
 
 -- The text that is due has gone out whole, or a front of it of so many bytes where a put has failed, or nothing for
 -- want of memory.

@@ -2,7 +2,7 @@ ghost use Rattle.std.specs.Prelude.{◌≡◌, IfOk};
 ghost use Rattle.c3_top.specs.Refusal.{name_of, refusal};
 
 use c_tree::Kind;
-use c3_base::NoMemory;
+use c3_base::{NoMemory, append};
 use std::alloc::Global;
 
 /// What is written where a text is refused.
@@ -10,9 +10,9 @@ pub fn refusal(alloc: Global, kind: Kind, at: u32) -> Result<Vec<u8>, NoMemory>
     ensures { IfOk result (λ text. text.items ≡ refusal kind at) }
 {
     let mut text = Vec::from_slice(alloc, b"refused ")?;
-    text.extend_from_slice(name(kind))?;
+    append(&mut text, name(kind))?;
     let place = format!(in alloc; " at {at}\n")?;
-    text.extend_from_slice(place.as_bytes())?;
+    append(&mut text, place.as_bytes())?;
     Ok(text)
 }
 

@@ -6,9 +6,10 @@ ghost use Rattle.c3_io.specs.Faults.{Rose};
 ghost use Rattle.c3_top.specs.Command.{HasFewRanks, IsCommand, IsNoCommand};
 ghost use Rattle.c3_top.specs.declared.command.Command.{Command as Asked};
 ghost use Rattle.c3_top.specs.declared.command.Command.TheVariants.{Plain};
+ghost use Rattle.c3_top.specs.declared.status.Status.TheVariants.{Done};
 ghost use Rattle.c3_top.specs.Text.{IsProgram};
 ghost use Rattle.c3_top.specs.Refusal as refusals;
-ghost use Rattle.c3_top.specs.Answer.{Counts, HasParts, IsAnswer, IsBadSchedule, IsDone, IsDue, IsFault, IsLeft, IsRefused, IsResult, IsTooMany, IsWriteFault, Writes, Exactly, input_limit};
+ghost use Rattle.c3_top.specs.Answer.{Counts, HasParts, IsAnswer, IsBadSchedule, IsDone, IsDue, IsFault, IsLeft, IsRefused, IsResult, IsTooMany, IsWriteFault, Writes, Exactly, input_limit, passed_text};
 
 use crate::Status;
 use crate::command::{Command, asked};
@@ -20,6 +21,9 @@ use c_kernel::program::Program;
 use c_tree::Kind;
 use c3_base::NoMemory;
 use c3_io::{ReadAllFault, Sink, Source, read_all, write_all_to};
+use ccift_lower::lower;
+use ccift_pass::pass;
+use flat_code::print_c;
 use job_schedule::{Schedule, ScheduleFault, read_schedule};
 use std::alloc::Global;
 
@@ -91,6 +95,17 @@ fn ran(alloc: Global, ranks: u16, program: Program, schedule: &Schedule) -> Resu
     })
 }
 
+/// The answer to `pass` for a program.
+fn passed(alloc: Global, program: &Program) -> Result<Answer, NoMemory>
+    ensures { IfOk result (λ answer. (answer.status ≡ Done) × (answer.text.items ≡ passed_text program.now)) }
+{
+    let code = pass(alloc, &lower(alloc, program)?)?;
+    Ok(Answer {
+        status: Status::Done,
+        text: print_c(alloc, &code)?,
+    })
+}
+
 /// The answer to a command on a text, under a schedule.
 fn text_result(
     alloc: Global,
@@ -105,6 +120,7 @@ fn text_result(
         Ok(program) => match command {
             Command::Plain { ranks } => ran(alloc, ranks, program, schedule),
             Command::Check => notice(alloc, Status::Done, b"accepted\n"),
+            Command::Pass => passed(alloc, &program),
         },
         Err(NoProgram::Refused { kind, at }) => refused(alloc, kind, at),
         Err(NoProgram::NoMemory) => Err(NoMemory),

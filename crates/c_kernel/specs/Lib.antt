@@ -1,3 +1,4 @@
 pub mod Extent
 pub mod Elements
 pub mod Regular
+pub mod Parts

@@ -1,2 +1,5 @@
 pub mod Machine
 pub mod Placed
+pub mod Text
+pub mod Nested
+pub mod Labels

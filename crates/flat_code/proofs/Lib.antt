@@ -1,0 +1,4 @@
+pub mod Nodes
+pub mod Nested
+pub mod Lists
+pub mod Labels

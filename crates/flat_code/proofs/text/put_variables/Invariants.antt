@@ -1,0 +1,6 @@
+use Rattle.std.proofs.Common.{◌≡◌, ◌++◌, ◌+◌, ◌*◌, drop, map, flat_map, length}
+use Rattle.flat_code.specs.Text.{declared_from, variable_line, variable_lines}
+use Rattle.flat_code.proofs.text.put_variables.Given as goal
+
+abbrev pub invariant-loop-k : goal.invariant-loop-k
+invariant-loop-k l = l.text.items ++ flat_map variable_line (declared_from l.structs l.k (drop l.k l.types)) ≡ l.fn.text.items ++ variable_lines l.structs l.f
