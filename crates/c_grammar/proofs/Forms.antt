@@ -1,11 +1,10 @@
 -- Which variant of an expression a row is of.
-use Rattle.std.proofs.Common.{◌≡◌, refl, ap, ◌∙◌, ℕ, zero, suc, ◌+◌, ◌-◌, List, [], ◌∷◌, Bool, true, false}
+use Rattle.std.proofs.Common.{◌≡◌, refl, ap, ◌∙◌, ℕ, zero, suc, ◌+◌, ◌-◌, [], ◌∷◌, Bool, true, false}
 use Rattle.c_tree.specs.declared.token.Class.{Class}
 use Rattle.c_tree.specs.declared.token.Class.TheVariants as class
 use Rattle.c_tree.specs.declared.tree.Constant.{Constant}
 use Rattle.c_tree.specs.declared.tree.Constant.TheVariants as constant
 use Rattle.c_tree.specs.declared.tree.Expr.TheOpen.{Expr-F}
-use Rattle.c_tree.specs.declared.tree.Link.{Link}
 use Rattle.c_tree.specs.declared.tree.Primary.{Primary}
 use Rattle.c_tree.specs.declared.tree.Primary.TheVariants as primary
 use Rattle.c_grammar.specs.Readers.{grade}

@@ -1,5 +1,5 @@
 -- An expression's row fixes the expression.
-use Rattle.std.proofs.Common.{◌≡◌, refl, ap, ◌∙◌, sym, ℕ, zero, suc, ◌-◌, ◌≤◌, List, [], ◌∷◌, map, arith}
+use Rattle.std.proofs.Common.{◌≡◌, refl, ap, ◌∙◌, sym, ℕ, zero, suc, ◌-◌, ◌≤◌, List, [], ◌∷◌, arith}
 use Rattle.c_tree.specs.declared.token.Class.TheVariants as class
 use Rattle.c_tree.specs.declared.token.Operator.{Operator}
 use Rattle.c_tree.specs.declared.token.Operator.TheVariants as operator

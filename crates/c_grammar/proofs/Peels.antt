@@ -13,7 +13,7 @@ use Rattle.c_tree.specs.declared.tree.TypeName.{TypeName}
 use Rattle.c_tree.specs.declared.tree.TypeSpecifier.{TypeSpecifier}
 use Rattle.c_tree.specs.declared.tree.TypeSpecifier.TheVariants as specifier
 use Rattle.c_grammar.specs.Grammar.{Part}
-use Rattle.c_grammar.specs.Meaning.{Forest, none, leaf, node, ◌+++◌}
+use Rattle.c_grammar.specs.Meaning.{Forest, none, node, ◌+++◌}
 use Rattle.c_grammar.specs.Trees.{Shape, at_grade, lifted, each, given, star_row, name_row, number_row, number_class, member_name_row, constant_class, access_class, plain_class, specifier_row, specifier_tree, type_name_row}
 use Rattle.c_grammar.proofs.Grades.{forest_assoc}
 

@@ -4,7 +4,6 @@ use Rattle.c_tree.specs.declared.token.Class.{Class}
 use Rattle.c_tree.specs.declared.token.Class.TheVariants as class
 use Rattle.c_tree.specs.declared.token.Call.{Call}
 use Rattle.c_tree.specs.declared.token.Call.TheVariants as call
-use Rattle.c_tree.specs.declared.token.Operator.{Operator}
 use Rattle.c_tree.specs.declared.token.Operator.TheVariants as operator
 use Rattle.c_tree.specs.declared.token.Value.TheVariants as value
 use Rattle.c_tree.specs.declared.tree.Item.{Item}

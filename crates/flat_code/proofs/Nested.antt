@@ -1,6 +1,6 @@
 -- A chain is what opens its links, the first operand, and what closes them; a place likewise.
 use Rattle.std.proofs.Common.{◌≡◌, List, [], ◌∷◌, ◌++◌, refl, ap, sym, ◌∙◌, map, append_assoc, append-nil}
-use Rattle.std.specs.Prelude.{ℕ, Bool, true, false, Option, Some, None, codes, flat_map, if◌then◌else◌}
+use Rattle.std.specs.Prelude.{Bool, true, false, Option, Some, None, codes, flat_map, if◌then◌else◌}
 use Rattle.c_kernel.specs.declared.program.Link.{Link}
 use Rattle.c_kernel.specs.declared.program.Place.{Place}
 use Rattle.c_kernel.specs.declared.program.Root.{Root}
@@ -10,9 +10,9 @@ use Rattle.c_kernel.specs.declared.program.Selection.TheVariants.{Element, Membe
 use Rattle.c_kernel.specs.declared.program.Expr.{Expr}
 use Rattle.c_kernel.specs.declared.types.IntegerType.{IntegerType}
 use Rattle.c_kernel.specs.declared.types.Struct.{Struct}
-use Rattle.c_kernel.specs.Parts.{link_with, place_with, root_with, step_with}
-use Rattle.flat_code.specs.Text.{Text, chain_text, followed, integer_text, is_indexed, left_text, name_of_member, operator_text, place_in, place_text, root_text, selected, text_of}
-use Rattle.flat_code.specs.Nested.{closed, left_closing, left_opening, link_closing, link_opening, link_openings, opened, root_in, step_closing, step_closings, step_opening, step_openings}
+use Rattle.c_kernel.specs.Parts.{link_with, root_with, step_with}
+use Rattle.flat_code.specs.Text.{Text, chain_text, followed, integer_text, is_indexed, left_text, name_of_member, operator_text, place_text, root_text, selected, text_of}
+use Rattle.flat_code.specs.Nested.{closed, left_closing, left_opening, link_closing, link_opening, link_openings, opened, root_in, step_closings, step_openings}
 
 -- what stands between an opening and a closing goes one level in
 inwards : (o x a y c : Text) → o ++ (x ++ a ++ y) ++ c ≡ (o ++ x) ++ a ++ (y ++ c)

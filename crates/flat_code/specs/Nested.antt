@@ -1,5 +1,5 @@
 -- Chains and places as they are written: what opens them, from the last part to the first, and what closes them.
-use Rattle.std.specs.Prelude.{ℕ, if◌then◌else◌, List, [], ◌∷◌, ◌++◌, flat_map, Option, Some, None, codes}
+use Rattle.std.specs.Prelude.{if◌then◌else◌, List, [], ◌∷◌, ◌++◌, Option, Some, None, codes}
 use Rattle.c_kernel.specs.declared.types.IntegerType.{IntegerType}
 use Rattle.c_kernel.specs.declared.types.Struct.{Struct}
 use Rattle.c_kernel.specs.declared.program.Link.{Link}

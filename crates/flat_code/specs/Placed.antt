@@ -1,10 +1,9 @@
 -- The machine with the places of its objects: it gives NULL exactly where no place fits.
-use Rattle.std.specs.Prelude.{◌≡◌, ℕ, ◌+◌, ◌-◌, nat_eq, nat_lt, if◌then◌else◌, Bool, true, false, List, [], ◌∷◌, ◌++◌, length, take, Option, Some, None, Result, Ok, Err}
+use Rattle.std.specs.Prelude.{◌≡◌, ℕ, ◌+◌, ◌-◌, nat_eq, nat_lt, if◌then◌else◌, Bool, true, false, List, [], ◌∷◌, ◌++◌, length, take, Option, Some, None, Ok, Err}
 use Rattle.mpi_words.specs.declared.operation.Op.{Op}
 use Rattle.mpi_words.specs.declared.operation.Reply.{Reply}
-use Rattle.c_values.specs.declared.value.Variables.{Variables}
 use Rattle.c_memory.specs.Memory.{Memory, used, cells_asked}
-use Rattle.c_values.specs.Value.{Found, value_of}
+use Rattle.c_values.specs.Value.{value_of}
 use Rattle.flat_code.specs.declared.code.FlatFunction.{FlatFunction}
 use Rattle.flat_code.specs.declared.code.Instr.{Instr}
 use Rattle.flat_code.specs.declared.code.Instr.TheVariants.{Call, Malloc, Free, Return}

@@ -1,4 +1,4 @@
-use Rattle.std.proofs.Common.{◌≡◌, ◌++◌, ◌+◌, ◌*◌, drop, map, flat_map, length}
+use Rattle.std.proofs.Common.{◌≡◌, ◌++◌, drop}
 use Rattle.flat_code.specs.Text.{instr_text, is_target, lines_from}
 use Rattle.flat_code.proofs.text.put_lines.Given as goal
 

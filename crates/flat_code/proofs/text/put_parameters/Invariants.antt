@@ -1,4 +1,4 @@
-use Rattle.std.proofs.Common.{◌≡◌, ◌++◌, ◌+◌, ◌*◌, drop, map, flat_map, length}
+use Rattle.std.proofs.Common.{◌≡◌, ◌++◌, drop}
 use Rattle.flat_code.specs.Text.{declared_from, listed, parameters_text}
 use Rattle.flat_code.proofs.text.put_parameters.Given as goal
 

@@ -1,4 +1,4 @@
-use Rattle.std.proofs.Common.{◌≡◌, ◌++◌, ◌+◌, ◌*◌, drop, map, flat_map, length}
+use Rattle.std.proofs.Common.{◌≡◌, ◌++◌, drop, flat_map}
 use Rattle.std.specs.Prelude.{codes}
 use Rattle.flat_code.specs.Text.{member_text}
 use Rattle.flat_code.proofs.text.put_struct.Given as goal

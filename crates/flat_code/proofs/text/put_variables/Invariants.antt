@@ -1,4 +1,4 @@
-use Rattle.std.proofs.Common.{◌≡◌, ◌++◌, ◌+◌, ◌*◌, drop, map, flat_map, length}
+use Rattle.std.proofs.Common.{◌≡◌, ◌++◌, drop, flat_map}
 use Rattle.flat_code.specs.Text.{declared_from, variable_line, variable_lines}
 use Rattle.flat_code.proofs.text.put_variables.Given as goal
 

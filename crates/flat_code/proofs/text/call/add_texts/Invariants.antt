@@ -1,4 +1,4 @@
-use Rattle.std.proofs.Common.{◌≡◌, ◌++◌, ◌+◌, ◌*◌, drop, map, flat_map, length}
+use Rattle.std.proofs.Common.{◌≡◌, ◌++◌, drop, map}
 use Rattle.flat_code.specs.Text.{texts_of}
 use Rattle.flat_code.proofs.text.call.add_texts.Given as goal
 

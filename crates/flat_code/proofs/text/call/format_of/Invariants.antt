@@ -1,4 +1,4 @@
-use Rattle.std.proofs.Common.{◌≡◌, ◌++◌, ◌+◌, ◌*◌, drop, map, flat_map, length}
+use Rattle.std.proofs.Common.{◌≡◌, ◌++◌, drop, flat_map}
 use Rattle.std.specs.Prelude.{codes}
 use Rattle.flat_code.specs.Text.{piece_text}
 use Rattle.flat_code.proofs.text.call.format_of.Given as goal

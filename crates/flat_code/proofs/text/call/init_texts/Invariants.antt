@@ -1,4 +1,4 @@
-use Rattle.std.proofs.Common.{◌≡◌, ◌++◌, ◌+◌, ◌*◌, drop, map, flat_map, length}
+use Rattle.std.proofs.Common.{◌≡◌, ◌++◌, drop, map}
 use Rattle.flat_code.specs.Text.{init_arguments}
 use Rattle.flat_code.proofs.Lists.{addresses}
 use Rattle.flat_code.proofs.text.call.init_texts.Given as goal

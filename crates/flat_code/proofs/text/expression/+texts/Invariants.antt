@@ -1,4 +1,4 @@
-use Rattle.std.proofs.Common.{◌≡◌, ◌++◌, ◌+◌, ◌*◌, drop, map, flat_map, length}
+use Rattle.std.proofs.Common.{◌≡◌, ◌++◌, ◌+◌, ◌*◌, drop, flat_map}
 use Rattle.flat_code.specs.Text.{text_of}
 use Rattle.flat_code.specs.Nested.{link_closing, step_closings}
 use Rattle.flat_code.proofs.text.expression.+texts.Given as goal

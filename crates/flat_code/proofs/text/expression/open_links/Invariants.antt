@@ -1,4 +1,4 @@
-use Rattle.std.proofs.Common.{◌≡◌, ◌++◌, ◌+◌, ◌*◌, drop, map, flat_map, length}
+use Rattle.std.proofs.Common.{◌≡◌, ◌++◌, drop}
 use Rattle.flat_code.specs.Nested.{link_openings}
 use Rattle.flat_code.proofs.text.expression.open_links.Given as goal
 

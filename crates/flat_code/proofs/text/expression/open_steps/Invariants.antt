@@ -1,4 +1,4 @@
-use Rattle.std.proofs.Common.{◌≡◌, ◌++◌, ◌+◌, ◌*◌, drop, map, flat_map, length}
+use Rattle.std.proofs.Common.{◌≡◌, ◌++◌, drop}
 use Rattle.flat_code.specs.Nested.{step_openings}
 use Rattle.flat_code.proofs.text.expression.open_steps.Given as goal
 

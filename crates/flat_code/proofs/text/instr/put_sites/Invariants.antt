@@ -1,4 +1,4 @@
-use Rattle.std.proofs.Common.{◌≡◌, ◌++◌, ◌+◌, ◌*◌, drop, map, flat_map, length}
+use Rattle.std.proofs.Common.{◌≡◌, ◌++◌, drop, map}
 use Rattle.flat_code.specs.Text.{joined, listed, site_text}
 use Rattle.flat_code.proofs.text.instr.put_sites.Given as goal
 

@@ -1,4 +1,4 @@
-use Rattle.std.proofs.Common.{◌≡◌, ◌++◌, ◌+◌, ◌*◌, drop, map, flat_map, length}
+use Rattle.std.proofs.Common.{◌≡◌, ◌++◌}
 use Rattle.flat_code.specs.Text.{variable_texts}
 use Rattle.flat_code.proofs.text.instr.put_variables.Given as goal
 

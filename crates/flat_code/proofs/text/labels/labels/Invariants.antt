@@ -1,4 +1,4 @@
-use Rattle.std.proofs.Common.{◌≡◌, ◌++◌, ◌+◌, ◌*◌, drop, map, flat_map, length}
+use Rattle.std.proofs.Common.{◌≡◌, drop, flat_map, length}
 use Rattle.std.specs.Prelude.{false, replicate}
 use Rattle.flat_code.specs.Text.{targets}
 use Rattle.flat_code.specs.Labels.{marked}

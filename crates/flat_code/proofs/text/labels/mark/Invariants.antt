@@ -1,4 +1,4 @@
-use Rattle.std.proofs.Common.{◌≡◌, ◌++◌, ◌+◌, ◌*◌, drop, map, flat_map, length}
+use Rattle.std.proofs.Common.{◌≡◌, drop, map}
 use Rattle.flat_code.specs.Labels.{marked}
 use Rattle.flat_code.proofs.text.labels.mark.Given as goal
 

@@ -1,5 +1,5 @@
-use Rattle.std.proofs.Common.{◌≡◌, ◌++◌, ◌+◌, ◌*◌, drop, map, flat_map, length}
-use Rattle.std.specs.Prelude.{codes, replicate, ◌-◌}
+use Rattle.std.proofs.Common.{◌≡◌, ◌++◌}
+use Rattle.std.specs.Prelude.{codes, replicate}
 use Rattle.flat_code.specs.Text.{base_text}
 use Rattle.flat_code.proofs.text.types.put_typed_name.Given as goal
 
