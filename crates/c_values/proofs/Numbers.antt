@@ -1,5 +1,5 @@
 -- Numbers of the integer types.
-use Rattle.std.proofs.Common.{◌≡◌, ◌∙◌, ap, sym, refl, subst, arith, ℕ, ◌<◌, ◌^◌, ℤ, pos, negsuc, FitsSigned, unsigned_abs, neg_ℤ, int_div, int_rem, zero, suc, ◌≤◌, ◌≢◌, ◌/◌, Bool, true, false, Ok, w8, w32, w64, to_z, of_z}
+use Rattle.std.proofs.Common.{◌≡◌, ◌∙◌, ap, sym, refl, subst, arith, ℕ, ◌<◌, ◌^◌, ℤ, pos, negsuc, FitsSigned, unsigned_abs, neg_ℤ, int_div, int_rem, zero, suc, ◌≤◌, ◌≢◌, ◌/◌, Bool, true, false, Result, Ok, Err, w8, w32, w64, to_z, of_z}
 use Rattle.std.proofs.lemmas.Int.{to_z-of_z, ints, SFits-int_wrap, quot_is, rem_is, fits_signed_from_abs}
 use Rattle.std.proofs.lemmas.Bool.Decides.{nat_tests}
 use Rattle.std.proofs.Math.Nat.{div-le_self}
@@ -9,7 +9,7 @@ use Rattle.c_memory.specs.Memory.{number}
 use mir.Val.{bits}
 use Rattle.std.specs.Int.{Width, w128, int_wrap, int_rem_euclid}
 use Rattle.c_kernel.specs.declared.types.IntegerType.TheVariants.{Char, Int}
-use Rattle.c_values.specs.Value.{narrowed, fits, is_zero, divided}
+use Rattle.c_values.specs.Value.{narrowed, fits, checked, is_zero, divided}
 
 wide_char : (z : ℤ) → FitsSigned w8 z → FitsSigned w64 z
 wide_char z f = omega (arith, ints, f)
@@ -65,6 +65,16 @@ not_zero : (b : ℤ) → (of_z w64 b ≢ 0) → is_zero b ≡ false
 not_zero (pos zero) h = absurd (h refl)
 not_zero (pos (suc n)) h = grind (arith, nat_tests)
 not_zero (negsuc n) h = refl
+
+-- a quotient by a divisor that isn't 0, tested at the greater width
+pub quotient_checked : (kind : IntegerType) (a b : ℤ) (r : Result Cell ℕ) → FitsSigned w64 a → FitsSigned w64 b → (of_z w64 b ≢ 0) → r ≡ checked kind (to_z w128 (of_z w128 (int_div (to_z w128 (of_z w128 (to_z w64 (of_z w64 a)))) (to_z w128 (of_z w128 (to_z w64 (of_z w64 b))))))) → r ≡ divided kind int_div a b
+quotient_checked kind a b r f g h e = e ∙ ap (checked kind) (quotient_is a b f g) ∙ rw (not_zero b h) refl
+
+-- a quotient that doesn't fit has no remainder
+pub no_remainder : (kind : IntegerType) (a b : ℤ) (t : Bool) → FitsSigned w64 a → FitsSigned w64 b → (of_z w64 b ≢ 0) → t ≡ fits kind (to_z w128 (of_z w128 (int_div (to_z w128 (of_z w128 (to_z w64 (of_z w64 a)))) (to_z w128 (of_z w128 (to_z w64 (of_z w64 b))))))) → t ≡ false → ◌≡◌ {A = Result Cell ℕ} (Err 105) (divided kind int_rem a b)
+no_remainder kind a b t f g h e bad =
+    let q : fits kind (int_div a b) ≡ false = ap (fits kind) (sym (quotient_is a b f g)) ∙ sym e ∙ bad in
+    rw (not_zero b h, q) refl
 
 -- the remainder of a quotient that fits
 pub remainder_is : (kind : IntegerType) (a b : ℤ) (c : Cell) (t : Bool) → FitsSigned w64 a → FitsSigned w64 b → (of_z w64 b ≢ 0) → t ≡ fits kind (to_z w128 (of_z w128 (int_div (to_z w128 (of_z w128 (to_z w64 (of_z w64 a)))) (to_z w128 (of_z w128 (to_z w64 (of_z w64 b))))))) → t ≡ true → c ≡ number (to_z w64 (of_z w64 (int_rem (to_z w64 (of_z w64 a)) (to_z w64 (of_z w64 b))))) → Ok c ≡ divided kind int_rem a b
