@@ -14,7 +14,7 @@ use Rattle.c_memory.specs.Memory.{Memory, is_full, cells_asked}
 use Rattle.c_values.specs.Value.{value_of}
 use Rattle.c_meaning.specs.State.{Item, Body, Rest, Begun, Acting, Awaiting, Testing, Stepping, State}
 use Rattle.c_meaning.specs.State as state
-use Rattle.c_meaning.specs.Step.{goes_on, does, acts, allocates, with_ok, tests, steps, awaited, step_in}
+use Rattle.c_meaning.specs.Step.{goes_on, does, acts, stores, allocates, with_ok, tests, steps, awaited, step_in}
 
 -- a state and a call with other calls and another list in place of what follows
 abbrev pub other : State → List state.Call → State
@@ -44,6 +44,12 @@ same_acts functions refuses s calls top items below todo (Zero k) = refl
 same_acts functions refuses s calls top items below todo (Set place value) = refl
 same_acts functions refuses s calls top items below todo (Call into f arguments) = refl
 same_acts functions refuses s calls top items below todo (Malloc place bytes each) = refl
+
+-- an assignment, with what follows it
+pub acted_set : (functions : List Function) (s : State) (top : state.Call) (below : List state.Call) (items todo : List Item) (a : Action) (place : Place Expr) (value : Expr) → items ≡ todo → a ≡ Set place value →
+    with_ok (value_of value top.variables s.memory) (stores s top below items place) ≡ acts functions is_full s top below todo a
+acted_set functions s top below items todo a place value e f =
+    ap (λ (rest : List Item). with_ok (value_of value top.variables s.memory) (stores s top below rest place)) e ∙ sym (ap (acts functions is_full s top below todo) f)
 
 -- a malloc, with what follows it
 pub acted_malloc : (functions : List Function) (s : State) (top : state.Call) (below : List state.Call) (items todo : List Item) (a : Action) (place : Place Expr) (bytes : Expr) (each : Extent) → items ≡ todo → a ≡ Malloc place bytes each →

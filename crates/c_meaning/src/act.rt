@@ -6,7 +6,7 @@ ghost use Rattle.c_meaning.specs.declared.level.Stage.TheVariants.{Acting};
 ghost use Rattle.c_meaning.specs.Level.{actions_in, after_part};
 ghost use Rattle.c_meaning.specs.Level as level;
 ghost use Rattle.c_kernel.specs.declared.program.Function as program;
-ghost use Rattle.c_meaning.specs.Running.{todo, block_of, state_of, outcome_of, in_call, standing};
+ghost use Rattle.c_meaning.specs.Running.{todo, block_of, outcome_by, in_call, standing};
 ghost use Rattle.c_meaning.specs.Step.{goes_on, acts, stores, allocates, with_ok};
 ghost use Rattle.c_memory.specs.Memory.{is_full, cells_asked};
 ghost use Rattle.c_values.specs.Value.{value_of};
@@ -14,7 +14,7 @@ ghost use Rattle.c_values.specs.Value.{value_of};
 use crate::frame::Frame;
 use crate::level::{Part, Stage, actions_before};
 use crate::levels::push;
-use crate::running::{Running, Step, block, fault};
+use crate::running::{Change, Running, block, fault};
 use c_kernel::Extent;
 use c_kernel::program::{Action, Expr, Function, Place};
 use c_memory::cells_asked;
@@ -26,15 +26,15 @@ impl Running {
     pub fn act(
         &mut self,
         functions: &[Function],
-        frame: Frame,
+        frame: &mut Frame,
         next: usize,
         part: Part,
         at: usize,
-    ) -> Result<Step, NoMemory>
+    ) -> Result<Change, NoMemory>
         requires { self.old.world.memory.next < 2 ^ 62 }
-        ensures { IfOk result (λ did. outcome_of did (state_of functions.now self.new) ≡ in_call (goes_on functions.now is_full) functions.now self.old frame (standing functions.now frame next (Acting part at))) }
+        ensures { IfOk result (λ did. outcome_by functions.now did self.new frame.new ≡ in_call (goes_on functions.now is_full) functions.now self.old frame.old (standing functions.now frame.old next (Acting part at))) }
     {
-        let block = block(functions, &frame);
+        let block = block(functions, frame);
         match actions_before(block, next, part).get(at) {
             None => self.put(frame, next, after(part)),
             Some(action) => self.perform_action(functions, frame, next, part, at + 1, action),
@@ -45,15 +45,15 @@ impl Running {
     fn perform_action(
         &mut self,
         functions: &[Function],
-        mut frame: Frame,
+        frame: &mut Frame,
         next: usize,
         part: Part,
         at: usize,
         action: &Action,
-    ) -> Result<Step, NoMemory>
-        requires is { slice_get (actions_in (out-Stmt (level.statement_before (block_of functions.now frame) next)) part) (at - 1) ≡ Some action.now }
+    ) -> Result<Change, NoMemory>
+        requires is { slice_get (actions_in (out-Stmt (level.statement_before (block_of functions.now frame.old) next)) part) (at - 1) ≡ Some action.now }
         requires few { self.old.world.memory.next < 2 ^ 62 }
-        ensures { IfOk result (λ did. outcome_of did (state_of functions.now self.new) ≡ in_call (acts functions.now is_full) functions.now self.old frame (standing functions.now frame next (Acting part at)) action.now) }
+        ensures { IfOk result (λ did. outcome_by functions.now did self.new frame.new ≡ in_call (acts functions.now is_full) functions.now self.old frame.old (standing functions.now frame.old next (Acting part at)) action.now) }
     {
         match action {
             Action::Zero(k) => {
@@ -82,35 +82,35 @@ impl Running {
     }
 
     // The right side, and then the place.
-    fn set(&mut self, frame: Frame, place: &Place<Expr>, e: &Expr) -> Result<Step, NoMemory>
-        ensures { IfOk result (λ did. (functions : List program.Function) → outcome_of did (state_of functions self.new) ≡ with_ok (value_of e.now frame.variables self.old.world.memory) (in_call stores functions self.old frame (todo functions frame) place.now)) }
+    fn set(&mut self, frame: &Frame, place: &Place<Expr>, e: &Expr) -> Result<Change, NoMemory>
+        ensures { IfOk result (λ did. (functions : List program.Function) → outcome_by functions did self.new frame.now ≡ with_ok (value_of e.now frame.now.variables self.old.world.memory) (in_call stores functions self.old frame.now (todo functions frame.now) place.now)) }
     {
         match self.world.set(&frame.variables, place, e) {
             Err(code) => fault(code),
-            Ok(()) => self.go_on(frame, false),
+            Ok(()) => Ok(Change::Goes { began: false }),
         }
     }
 
-    /// A value is stored at a place.
-    pub fn store(&mut self, frame: Frame, place: &Place<Expr>, v: Cell) -> Result<Step, NoMemory>
-        ensures { IfOk result (λ did. (functions : List program.Function) → outcome_of did (state_of functions self.new) ≡ in_call stores functions self.old frame (todo functions frame) place.now v) }
+    // A value is stored at a place.
+    fn store(&mut self, frame: &Frame, place: &Place<Expr>, v: Cell) -> Result<Change, NoMemory>
+        ensures { IfOk result (λ did. (functions : List program.Function) → outcome_by functions did self.new frame.now ≡ in_call stores functions self.old frame.now (todo functions frame.now) place.now v) }
     {
         match self.world.store(&frame.variables, place, v) {
             Err(code) => fault(code),
-            Ok(()) => self.go_on(frame, false),
+            Ok(()) => Ok(Change::Goes { began: false }),
         }
     }
 
     // `malloc`.
     fn malloc(
         &mut self,
-        frame: Frame,
+        frame: &Frame,
         place: &Place<Expr>,
         bytes: &Expr,
         each: Extent,
-    ) -> Result<Step, NoMemory>
+    ) -> Result<Change, NoMemory>
         requires { self.old.world.memory.next < 2 ^ 62 }
-        ensures { IfOk result (λ did. (functions : List program.Function) → outcome_of did (state_of functions self.new) ≡ with_ok (value_of bytes.now frame.variables self.old.world.memory) (λ n. in_call (allocates is_full) functions self.old frame (todo functions frame) place.now (cells_asked n.word each))) }
+        ensures { IfOk result (λ did. (functions : List program.Function) → outcome_by functions did self.new frame.now ≡ with_ok (value_of bytes.now frame.now.variables self.old.world.memory) (λ n. in_call (allocates is_full) functions self.old frame.now (todo functions frame.now) place.now (cells_asked n.word each))) }
     {
         match value(bytes, &frame.variables, &self.world.memory) {
             Err(code) => fault(code),
@@ -121,12 +121,12 @@ impl Running {
     // What is given for so many cells is stored at a place.
     fn allocate(
         &mut self,
-        frame: Frame,
+        frame: &Frame,
         place: &Place<Expr>,
         asked: Option<u128>,
-    ) -> Result<Step, NoMemory>
+    ) -> Result<Change, NoMemory>
         requires { self.old.world.memory.next < 2 ^ 62 }
-        ensures { IfOk result (λ did. (functions : List program.Function) → outcome_of did (state_of functions self.new) ≡ in_call (allocates is_full) functions self.old frame (todo functions frame) place.now asked) }
+        ensures { IfOk result (λ did. (functions : List program.Function) → outcome_by functions did self.new frame.now ≡ in_call (allocates is_full) functions self.old frame.now (todo functions frame.now) place.now asked) }
     {
         let given = self.world.memory.give(asked)?;
         self.store(frame, place, given)

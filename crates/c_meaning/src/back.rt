@@ -2,7 +2,7 @@
 
 ghost use Rattle.std.specs.Prelude.{◌≡◌, IfOk};
 ghost use Rattle.c_meaning.specs.declared.level.Stage.TheVariants.{Awaiting};
-ghost use Rattle.c_meaning.specs.Running.{todo, state_of, outcome_of, in_call, standing};
+ghost use Rattle.c_meaning.specs.Running.{todo, state_of, outcome_of, goes_back, in_call, standing};
 ghost use Rattle.c_meaning.specs.Step.{awaited, returned};
 
 use crate::frame::Frame;
@@ -20,15 +20,21 @@ impl Running {
     pub fn give_back(
         &mut self,
         functions: &[Function],
-        frame: Frame,
+        frame: &Frame,
         v: Cell,
     ) -> Result<Step, NoMemory>
-        ensures { IfOk result (λ did. outcome_of did (state_of functions.now self.new) ≡ in_call returned functions.now self.old frame v) }
+        ensures { IfOk result (λ did. outcome_of did (state_of functions.now self.new) ≡ in_call returned functions.now self.old frame.now v) }
     {
         self.world.memory.leave(frame.variables.count);
-        match self.frames.pop() {
-            None => Ok(Step::Ended(End::Exit(exit_code(v)))),
-            Some(caller) => self.come_back(functions, caller, v),
+        let Some(mut caller) = self.frames.pop() else {
+            return Ok(Step::Ended(End::Exit(exit_code(v))));
+        };
+        match self.come_back(functions, &mut caller, v)? {
+            Err(code) => Ok(Step::Ended(End::Fault(code))),
+            Ok(()) => {
+                self.push(caller)?;
+                Ok(Step::Local { began: false })
+            }
         }
     }
 
@@ -36,13 +42,13 @@ impl Running {
     fn come_back(
         &mut self,
         functions: &[Function],
-        mut caller: Frame,
+        caller: &mut Frame,
         v: Cell,
-    ) -> Result<Step, NoMemory>
-        ensures { IfOk result (λ did. outcome_of did (state_of functions.now self.new) ≡ in_call awaited functions.now self.old caller (todo functions.now caller) v) }
+    ) -> Result<Result<(), u16>, NoMemory>
+        ensures { IfOk result (λ did. goes_back functions.now did self.new caller.new ≡ in_call awaited functions.now self.old caller.old (todo functions.now caller.old) v) }
     {
         match caller.levels.pop() {
-            None => self.go_on(caller, false),
+            None => Ok(Ok(())),
             Some(level) => self.come_back_at(functions, caller, level.next, level.stage, v),
         }
     }
@@ -50,16 +56,19 @@ impl Running {
     fn come_back_at(
         &mut self,
         functions: &[Function],
-        caller: Frame,
+        caller: &mut Frame,
         next: usize,
         stage: Stage,
         v: Cell,
-    ) -> Result<Step, NoMemory>
-        ensures { IfOk result (λ did. outcome_of did (state_of functions.now self.new) ≡ in_call awaited functions.now self.old caller (standing functions.now caller next stage) v) }
+    ) -> Result<Result<(), u16>, NoMemory>
+        ensures { IfOk result (λ did. goes_back functions.now did self.new caller.new ≡ in_call awaited functions.now self.old caller.old (standing functions.now caller.old next stage) v) }
     {
         match stage {
             Stage::Awaiting { part, at } => self.receive(functions, caller, next, part, at, v),
-            _ => self.put(caller, next, stage),
+            _ => {
+                push(&mut caller.levels, next, stage)?;
+                Ok(Ok(()))
+            }
         }
     }
 
@@ -67,20 +76,23 @@ impl Running {
     fn receive(
         &mut self,
         functions: &[Function],
-        mut caller: Frame,
+        caller: &mut Frame,
         next: usize,
         part: Part,
         at: usize,
         v: Cell,
-    ) -> Result<Step, NoMemory>
-        ensures { IfOk result (λ did. outcome_of did (state_of functions.now self.new) ≡ in_call awaited functions.now self.old caller (standing functions.now caller next (Awaiting part at)) v) }
+    ) -> Result<Result<(), u16>, NoMemory>
+        ensures { IfOk result (λ did. goes_back functions.now did self.new caller.new ≡ in_call awaited functions.now self.old caller.old (standing functions.now caller.old next (Awaiting part at)) v) }
     {
-        let block = block(functions, &caller);
+        let block = block(functions, caller);
         let target = target_before(actions_before(block, next, part), at);
         push(&mut caller.levels, next, Stage::Acting { part, at })?;
         match target {
-            None => self.go_on(caller, false),
-            Some(target) => self.store(caller, &target.place, read(target.kind, v)),
+            None => Ok(Ok(())),
+            Some(target) => {
+                let v = read(target.kind, v);
+                Ok(self.world.store(&caller.variables, &target.place, v))
+            }
         }
     }
 }

@@ -5,12 +5,12 @@ ghost use Rattle.c_kernel.specs.declared.program.Function as program;
 ghost use Rattle.mpi_effects.specs.Requests.{bytes_asked};
 ghost use Rattle.mpi_effects.specs.World.{came_to};
 ghost use Rattle.c_meaning.specs.declared.level.Stage.TheVariants.{Between};
-ghost use Rattle.c_meaning.specs.Running.{state_of, outcome_of, answer_of, in_call, standing};
+ghost use Rattle.c_meaning.specs.Running.{state_of, outcome_by, answer_of, in_call, standing};
 ghost use Rattle.c_meaning.specs.Step.{answered, calls_mpi, comes_to};
 
 use crate::frame::Frame;
 use crate::level::Stage;
-use crate::running::{Running, Step, fault};
+use crate::running::{Change, Running, fault};
 use c_kernel::program::MpiCall;
 use c3_base::NoMemory;
 use mpi_effects::Request;
@@ -18,8 +18,13 @@ use mpi_words::{End, Reply};
 
 impl Running {
     /// A call of MPI.
-    pub fn call_mpi(&mut self, frame: Frame, next: usize, call: &MpiCall) -> Result<Step, NoMemory>
-        ensures { IfOk result (λ did. (functions : List program.Function) → outcome_of did (state_of functions self.new) ≡ in_call calls_mpi functions self.old frame (standing functions frame next Between) call.now) }
+    pub fn call_mpi(
+        &mut self,
+        frame: &mut Frame,
+        next: usize,
+        call: &MpiCall,
+    ) -> Result<Change, NoMemory>
+        ensures { IfOk result (λ did. (functions : List program.Function) → outcome_by functions did self.new frame.new ≡ in_call calls_mpi functions self.old frame.old (standing functions frame.old next Between) call.now) }
     {
         match self.world.call(self.alloc, &frame.variables, call)? {
             Err(code) => fault(code),
@@ -30,12 +35,12 @@ impl Running {
     // What a call comes to, when it has written.
     fn come_to(
         &mut self,
-        frame: Frame,
+        frame: &mut Frame,
         next: usize,
         request: Option<Request>,
-    ) -> Result<Step, NoMemory>
+    ) -> Result<Change, NoMemory>
         requires { bytes_asked request ≡ 0 }
-        ensures { IfOk result (λ did. (functions : List program.Function) → outcome_of did (state_of functions self.new) ≡ in_call comes_to functions self.old frame (standing functions frame next Between) (came_to self.old.world.memory self.old.world.requests.phase request)) }
+        ensures { IfOk result (λ did. (functions : List program.Function) → outcome_by functions did self.new frame.new ≡ in_call comes_to functions self.old frame.old (standing functions frame.old next Between) (came_to self.old.world.memory self.old.world.requests.phase request)) }
     {
         match request {
             None => self.put(frame, next, Stage::Between),

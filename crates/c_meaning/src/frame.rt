@@ -13,3 +13,11 @@ pub struct Frame {
     pub levels: Vec<Level>,
     ghost reach: { variables.first + variables.count < 2 ^ 64 },
 }
+
+/// A function that is called, and its variables.
+#[derive(Clone, Copy)]
+pub struct Entry {
+    pub function: usize,
+    pub variables: Variables,
+    ghost reach: { variables.first + variables.count < 2 ^ 64 },
+}

@@ -1,6 +1,6 @@
 //! A rank that runs a program.
 
-ghost use Rattle.std.specs.Prelude.{◌≡◌, ◌<◌, ◌^◌, ℕ, IfOk, is_some, List};
+ghost use Rattle.std.specs.Prelude.{◌≡◌, ◌<◌, ◌^◌, ℕ, IfOk, is_some, option_map, List};
 ghost use Rattle.c_meaning.specs.Level.{level_items};
 ghost use Rattle.c_memory.specs.Memory.{is_full};
 ghost use Rattle.c_meaning.specs.State.{Item};
@@ -9,6 +9,7 @@ ghost use Rattle.c_meaning.specs.Rank.{functions_of, state_of};
 ghost use Rattle.c_meaning.specs.Running as spec;
 ghost use Rattle.c_meaning.specs.Step as step;
 
+use crate::call::{frame, reserve};
 use crate::frame::Frame;
 use crate::level::{Stage, block_at, body};
 use crate::running::{Running, Step};
@@ -16,7 +17,7 @@ use c_kernel::program::{Function, Program, Stmt};
 use c_memory::Memory;
 use c3_base::NoMemory;
 use mpi_effects::{Requests, Seat, World};
-use mpi_words::{End, Reply};
+use mpi_words::{End, Op, Reply};
 use std::alloc::Global;
 use std::rc::Rc;
 
@@ -65,6 +66,13 @@ impl Rank {
         self.running.world.requests.asked.is_some()
     }
 
+    /// The operation that waits for its reply, if one does.
+    pub fn operation(&self) -> Result<Option<Op>, NoMemory>
+        ensures { IfOk result (λ operation. operation ≡ option_map (λ request. request.operation) (state_of self.now).asked) }
+    {
+        self.running.world.requests.operation()
+    }
+
     /// One step. After an error or an end the rank is not used further.
     pub fn step(&mut self) -> Result<Step, NoMemory>
         requires { (state_of self.old).memory.next < 2 ^ 62 }
@@ -92,7 +100,7 @@ fn started(
 ) -> Result<Running, NoMemory>
     ensures { IfOk result (λ run. (p : program.Program) → (rank : ℕ) → (ranks : ℕ) → p.functions ≡ functions.now → p.main ≡ main → step.seat_of p rank ranks ≡ seat → spec.state_of functions.now run ≡ step.start p rank ranks) }
 {
-    let mut running = Running {
+    let mut run = Running {
         alloc,
         world: World {
             memory: Memory::new(alloc),
@@ -100,8 +108,13 @@ fn started(
         },
         frames: Vec::new(alloc),
     };
-    let _ = running.push_call(functions, main)?;
-    Ok(running)
+    match reserve(alloc, &mut run.world.memory, functions, main)? {
+        Err(_) => Ok(run),
+        Ok(entry) => {
+            run.push(frame(alloc, entry)?)?;
+            Ok(run)
+        }
+    }
 }
 
 impl Running {

@@ -6,7 +6,7 @@ ghost use Rattle.c_kernel.specs.declared.program.Stmt.TheOpen.{If};
 ghost use Rattle.c_meaning.specs.declared.level.Stage.TheVariants.{Between, Begun};
 ghost use Rattle.c_meaning.specs.Level as level;
 ghost use Rattle.c_kernel.specs.declared.program.Function as program;
-ghost use Rattle.c_meaning.specs.Running.{todo, block_of, state_of, outcome_of, in_call, standing};
+ghost use Rattle.c_meaning.specs.Running.{todo, block_of, outcome_by, in_call, standing};
 ghost use Rattle.c_meaning.specs.State.{Rest, after_loop, to_loop};
 ghost use Rattle.c_memory.specs.Memory as memory;
 ghost use Rattle.c_memory.specs.Memory.{is_full};
@@ -19,7 +19,7 @@ use crate::choice::chosen;
 use crate::frame::Frame;
 use crate::level::{Part, Stage, begun};
 use crate::levels::{continue_loop, leave_loop, push};
-use crate::running::{Running, Step, block, fault};
+use crate::running::{Change, Running, block, fault};
 use c_kernel::program::{Arm, Expr, Function, Piece, Stmt};
 use c_memory::number;
 use c_values::value::value;
@@ -32,12 +32,12 @@ impl Running {
     pub fn perform(
         &mut self,
         functions: &[Function],
-        frame: Frame,
+        frame: &mut Frame,
         next: usize,
-    ) -> Result<Step, NoMemory>
-        ensures { IfOk result (λ did. outcome_of did (state_of functions.now self.new) ≡ in_call (goes_on functions.now is_full) functions.now self.old frame (standing functions.now frame next Begun)) }
+    ) -> Result<Change, NoMemory>
+        ensures { IfOk result (λ did. outcome_by functions.now did self.new frame.new ≡ in_call (goes_on functions.now is_full) functions.now self.old frame.old (standing functions.now frame.old next Begun)) }
     {
-        let block = block(functions, &frame);
+        let block = block(functions, frame);
         match begun(block, next) {
             None => self.leave(frame),
             Some(x) => self.perform_statement(functions, frame, next, x),
@@ -47,12 +47,12 @@ impl Running {
     fn perform_statement(
         &mut self,
         functions: &[Function],
-        frame: Frame,
+        frame: &mut Frame,
         next: usize,
         x: &Stmt,
-    ) -> Result<Step, NoMemory>
-        requires { x.now ≡ level.statement_before (block_of functions.now frame) next }
-        ensures { IfOk result (λ did. outcome_of did (state_of functions.now self.new) ≡ in_call (does functions.now) functions.now self.old frame (standing functions.now frame next Between) x.now (out-Stmt x.now)) }
+    ) -> Result<Change, NoMemory>
+        requires { x.now ≡ level.statement_before (block_of functions.now frame.old) next }
+        ensures { IfOk result (λ did. outcome_by functions.now did self.new frame.new ≡ in_call (does functions.now) functions.now self.old frame.old (standing functions.now frame.old next Between) x.now (out-Stmt x.now)) }
     {
         match x {
             Stmt::Actions(_) => {
@@ -77,8 +77,8 @@ impl Running {
             }
             Stmt::Break => self.leave(frame),
             Stmt::Continue => self.resume(frame),
-            Stmt::Return(None) => self.give_back(functions, frame, number(0)),
-            Stmt::Return(Some(e)) => self.return_value(functions, frame, e),
+            Stmt::Return(None) => Ok(Change::Returns(number(0))),
+            Stmt::Return(Some(e)) => self.return_value(frame, e),
             Stmt::Print { format, arguments } => {
                 self.print(frame, next, format.as_slice(), arguments.as_slice())
             }
@@ -92,13 +92,13 @@ impl Running {
     fn choose(
         &mut self,
         functions: &[Function],
-        frame: Frame,
+        frame: &mut Frame,
         next: usize,
         arms: &[Arm<Stmt>],
         otherwise: &[Stmt],
-    ) -> Result<Step, NoMemory>
-        requires { out-Stmt (level.statement_before (block_of functions.now frame) next) ≡ If arms.now otherwise.now }
-        ensures { IfOk result (λ did. outcome_of did (state_of functions.now self.new) ≡ with_ok (branch arms.now otherwise.now frame.variables self.old.world.memory) (λ ss. in_call goes_to functions.now self.old frame (Rest ss ∷ standing functions.now frame next Between))) }
+    ) -> Result<Change, NoMemory>
+        requires { out-Stmt (level.statement_before (block_of functions.now frame.old) next) ≡ If arms.now otherwise.now }
+        ensures { IfOk result (λ did. outcome_by functions.now did self.new frame.new ≡ with_ok (branch arms.now otherwise.now frame.old.variables self.old.world.memory) (λ ss. in_call goes_to functions.now self.old frame.old (Rest ss ∷ standing functions.now frame.old next Between))) }
     {
         match chosen(arms, &frame.variables, &self.world.memory) {
             Err(code) => fault(code),
@@ -107,38 +107,33 @@ impl Running {
     }
 
     // A `break`.
-    fn leave(&mut self, mut frame: Frame) -> Result<Step, NoMemory>
-        ensures { IfOk result (λ did. (functions : List program.Function) → outcome_of did (state_of functions self.new) ≡ in_call goes_to functions self.old frame (after_loop (todo functions frame))) }
+    fn leave(&mut self, frame: &mut Frame) -> Result<Change, NoMemory>
+        ensures { IfOk result (λ did. (functions : List program.Function) → outcome_by functions did self.new frame.new ≡ in_call goes_to functions self.old frame.old (after_loop (todo functions frame.old))) }
     {
         leave_loop(&mut frame.levels)?;
-        self.go_on(frame, false)
+        Ok(Change::Goes { began: false })
     }
 
     // A `continue`.
-    fn resume(&mut self, mut frame: Frame) -> Result<Step, NoMemory>
-        ensures { IfOk result (λ did. (functions : List program.Function) → outcome_of did (state_of functions self.new) ≡ in_call goes_to functions self.old frame (to_loop (todo functions frame))) }
+    fn resume(&mut self, frame: &mut Frame) -> Result<Change, NoMemory>
+        ensures { IfOk result (λ did. (functions : List program.Function) → outcome_by functions did self.new frame.new ≡ in_call goes_to functions self.old frame.old (to_loop (todo functions frame.old))) }
     {
         continue_loop(&mut frame.levels)?;
-        self.go_on(frame, false)
+        Ok(Change::Goes { began: false })
     }
 
-    fn return_value(
-        &mut self,
-        functions: &[Function],
-        frame: Frame,
-        e: &Expr,
-    ) -> Result<Step, NoMemory>
-        ensures { IfOk result (λ did. outcome_of did (state_of functions.now self.new) ≡ with_ok (value_of e.now frame.variables self.old.world.memory) (in_call returned functions.now self.old frame)) }
+    fn return_value(&self, frame: &Frame, e: &Expr) -> Result<Change, NoMemory>
+        ensures { IfOk result (λ did. (functions : List program.Function) → outcome_by functions did self.now frame.now ≡ with_ok (value_of e.now frame.now.variables self.now.world.memory) (in_call returned functions self.now frame.now)) }
     {
         match value(e, &frame.variables, &self.world.memory) {
             Err(code) => fault(code),
-            Ok(v) => self.give_back(functions, frame, v),
+            Ok(v) => Ok(Change::Returns(v)),
         }
     }
 
     // `free`.
-    fn free(&mut self, frame: Frame, next: usize, e: &Expr) -> Result<Step, NoMemory>
-        ensures { IfOk result (λ did. (functions : List program.Function) → outcome_of did (state_of functions self.new) ≡ with_ok (value_of e.now frame.variables self.old.world.memory) (λ p. with_ok (memory.free self.old.world.memory p) (in_call goes_with functions self.old frame (standing functions frame next Between)))) }
+    fn free(&mut self, frame: &mut Frame, next: usize, e: &Expr) -> Result<Change, NoMemory>
+        ensures { IfOk result (λ did. (functions : List program.Function) → outcome_by functions did self.new frame.new ≡ with_ok (value_of e.now frame.old.variables self.old.world.memory) (λ p. with_ok (memory.free self.old.world.memory p) (in_call goes_with functions self.old frame.old (standing functions frame.old next Between)))) }
     {
         match value(e, &frame.variables, &self.world.memory) {
             Err(code) => fault(code),
@@ -146,8 +141,13 @@ impl Running {
         }
     }
 
-    fn free_object(&mut self, frame: Frame, next: usize, pointer: Cell) -> Result<Step, NoMemory>
-        ensures { IfOk result (λ did. (functions : List program.Function) → outcome_of did (state_of functions self.new) ≡ with_ok (memory.free self.old.world.memory pointer) (in_call goes_with functions self.old frame (standing functions frame next Between))) }
+    fn free_object(
+        &mut self,
+        frame: &mut Frame,
+        next: usize,
+        pointer: Cell,
+    ) -> Result<Change, NoMemory>
+        ensures { IfOk result (λ did. (functions : List program.Function) → outcome_by functions did self.new frame.new ≡ with_ok (memory.free self.old.world.memory pointer) (in_call goes_with functions self.old frame.old (standing functions frame.old next Between))) }
     {
         match self.world.memory.free(pointer) {
             Err(code) => fault(code),
@@ -158,12 +158,12 @@ impl Running {
     // `printf`.
     fn print(
         &mut self,
-        frame: Frame,
+        frame: &mut Frame,
         next: usize,
         format: &[Piece],
         arguments: &[Expr],
-    ) -> Result<Step, NoMemory>
-        ensures { IfOk result (λ did. (functions : List program.Function) → outcome_of did (state_of functions self.new) ≡ with_ok (values_of arguments.now frame.variables self.old.world.memory) (λ vs. in_call prints functions self.old frame (standing functions frame next Between) (printed format.now vs))) }
+    ) -> Result<Change, NoMemory>
+        ensures { IfOk result (λ did. (functions : List program.Function) → outcome_by functions did self.new frame.new ≡ with_ok (values_of arguments.now frame.old.variables self.old.world.memory) (λ vs. in_call prints functions self.old frame.old (standing functions frame.old next Between) (printed format.now vs))) }
     {
         match self
             .world
@@ -175,13 +175,17 @@ impl Running {
     }
 
     /// An operation, which waits for its reply.
-    pub fn ask(&mut self, mut frame: Frame, next: usize, request: Request) -> Result<Step, NoMemory>
+    pub fn ask(
+        &mut self,
+        frame: &mut Frame,
+        next: usize,
+        request: Request,
+    ) -> Result<Change, NoMemory>
         requires { self.old.world.requests.printed + bytes_of request.operation ≤ 1048576 }
-        ensures { IfOk result (λ did. (functions : List program.Function) → outcome_of did (state_of functions self.new) ≡ in_call asks functions self.old frame (standing functions frame next Between) request) }
+        ensures { IfOk result (λ did. (functions : List program.Function) → outcome_by functions did self.new frame.new ≡ in_call asks functions self.old frame.old (standing functions frame.old next Between) request) }
     {
-        let asked = self.world.requests.ask(request)?;
         push(&mut frame.levels, next, Stage::Between)?;
-        self.frames.push(frame)?;
-        Ok(Step::Wants(asked))
+        self.world.requests.ask(request);
+        Ok(Change::Asks)
     }
 }

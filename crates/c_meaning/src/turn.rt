@@ -6,13 +6,13 @@ ghost use Rattle.c_meaning.specs.Level.{branch_in};
 ghost use Rattle.c_meaning.specs.Level as level;
 ghost use Rattle.c_meaning.specs.declared.level.Stage.TheVariants.{Between};
 ghost use Rattle.c_kernel.specs.declared.program.Function as program;
-ghost use Rattle.c_meaning.specs.Running.{block_of, state_of, outcome_of, in_call, standing};
+ghost use Rattle.c_meaning.specs.Running.{block_of, outcome_by, in_call, standing};
 ghost use Rattle.c_meaning.specs.State.{Rest};
 ghost use Rattle.c_meaning.specs.Step.{tests, steps, turns};
 
 use crate::frame::Frame;
 use crate::level::{Part, Stage, begun};
-use crate::running::{Running, Step, block, fault};
+use crate::running::{Change, Running, block, fault};
 use c_kernel::program::{Expr, Function, Stmt};
 use c_values::value::{is_false, value};
 use c3_base::NoMemory;
@@ -22,12 +22,12 @@ impl Running {
     pub fn test(
         &mut self,
         functions: &[Function],
-        frame: Frame,
+        frame: &mut Frame,
         next: usize,
-    ) -> Result<Step, NoMemory>
-        ensures { IfOk result (λ did. outcome_of did (state_of functions.now self.new) ≡ in_call tests functions.now self.old frame (standing functions.now frame next Between) (level.statement_before (block_of functions.now frame) next) (out-Stmt (level.statement_before (block_of functions.now frame) next))) }
+    ) -> Result<Change, NoMemory>
+        ensures { IfOk result (λ did. outcome_by functions.now did self.new frame.new ≡ in_call tests functions.now self.old frame.old (standing functions.now frame.old next Between) (level.statement_before (block_of functions.now frame.old) next) (out-Stmt (level.statement_before (block_of functions.now frame.old) next))) }
     {
-        let block = block(functions, &frame);
+        let block = block(functions, frame);
         match begun(block, next) {
             None => self.put(frame, next, Stage::Between),
             Some(x) => self.test_loop(functions, frame, next, x),
@@ -37,12 +37,12 @@ impl Running {
     fn test_loop(
         &mut self,
         functions: &[Function],
-        frame: Frame,
+        frame: &mut Frame,
         next: usize,
         x: &Stmt,
-    ) -> Result<Step, NoMemory>
-        requires { x.now ≡ level.statement_before (block_of functions.now frame) next }
-        ensures { IfOk result (λ did. outcome_of did (state_of functions.now self.new) ≡ in_call tests functions.now self.old frame (standing functions.now frame next Between) x.now (out-Stmt x.now)) }
+    ) -> Result<Change, NoMemory>
+        requires { x.now ≡ level.statement_before (block_of functions.now frame.old) next }
+        ensures { IfOk result (λ did. outcome_by functions.now did self.new frame.new ≡ in_call tests functions.now self.old frame.old (standing functions.now frame.old next Between) x.now (out-Stmt x.now)) }
     {
         match x {
             Stmt::While { test, .. } => self.turn(frame, next, Stage::Testing, test),
@@ -59,12 +59,12 @@ impl Running {
     // One more turn, where the test isn't 0.
     fn turn(
         &mut self,
-        frame: Frame,
+        frame: &mut Frame,
         next: usize,
         stage: Stage,
         test: &Expr,
-    ) -> Result<Step, NoMemory>
-        ensures { IfOk result (λ did. (functions : List program.Function) → outcome_of did (state_of functions self.new) ≡ in_call turns functions self.old frame (standing functions frame next Between) test.now (Rest (branch_in (out-Stmt (level.statement_before (block_of functions frame) next)) 0) ∷ standing functions frame next stage)) }
+    ) -> Result<Change, NoMemory>
+        ensures { IfOk result (λ did. (functions : List program.Function) → outcome_by functions did self.new frame.new ≡ in_call turns functions self.old frame.old (standing functions frame.old next Between) test.now (Rest (branch_in (out-Stmt (level.statement_before (block_of functions frame.old) next)) 0) ∷ standing functions frame.old next stage)) }
     {
         match value(test, &frame.variables, &self.world.memory) {
             Err(code) => fault(code),
@@ -82,12 +82,12 @@ impl Running {
     pub fn step_loop(
         &mut self,
         functions: &[Function],
-        frame: Frame,
+        frame: &mut Frame,
         next: usize,
-    ) -> Result<Step, NoMemory>
-        ensures { IfOk result (λ did. outcome_of did (state_of functions.now self.new) ≡ in_call steps functions.now self.old frame (standing functions.now frame next Between) (level.statement_before (block_of functions.now frame) next) (out-Stmt (level.statement_before (block_of functions.now frame) next))) }
+    ) -> Result<Change, NoMemory>
+        ensures { IfOk result (λ did. outcome_by functions.now did self.new frame.new ≡ in_call steps functions.now self.old frame.old (standing functions.now frame.old next Between) (level.statement_before (block_of functions.now frame.old) next) (out-Stmt (level.statement_before (block_of functions.now frame.old) next))) }
     {
-        let block = block(functions, &frame);
+        let block = block(functions, frame);
         match begun(block, next) {
             Some(Stmt::For { .. }) => {
                 let part = Part::Last;

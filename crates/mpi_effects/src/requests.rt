@@ -1,6 +1,6 @@
 //! What a rank has to do with others.
 
-ghost use Rattle.std.specs.Prelude.{◌≡◌, ◌+◌, ◌≤◌, Some, None, IfOk};
+ghost use Rattle.std.specs.Prelude.{◌≡◌, ◌+◌, ◌≤◌, Some, None, IfOk, option_map};
 ghost use Rattle.mpi_effects.specs.declared.seat.Phase.TheVariants.{Before};
 ghost use Rattle.mpi_effects.specs.World.{output};
 ghost use Rattle.mpi_effects.specs.Requests.{bytes_of, bytes_asked, plain_request, receipt_of};
@@ -76,18 +76,25 @@ impl Requests {
         Ok(Request::plain(Op::Output(text)))
     }
 
-    /// An operation waits for its reply. The result is equal to it.
-    pub fn ask(&mut self, request: Request) -> Result<Op, NoMemory>
+    /// An operation waits for its reply.
+    pub fn ask(&mut self, request: Request)
         requires { self.old.printed + bytes_of request.operation ≤ 1048576 }
         ensures seat { self.new.seat ≡ self.old.seat }
         ensures phase { self.new.phase ≡ self.old.phase }
         ensures printed { self.new.printed ≡ self.old.printed }
-        ensures asked { IfOk result (λ operation. self.new.asked ≡ Some request) }
-        ensures operation { IfOk result (λ operation. operation ≡ request.operation) }
+        ensures asked { self.new.asked ≡ Some request }
     {
-        let operation = request.operation.copy()?;
         self.asked = Some(request);
-        Ok(operation)
+    }
+
+    /// The operation that waits for its reply, if one does.
+    pub fn operation(&self) -> Result<Option<Op>, NoMemory>
+        ensures { IfOk result (λ operation. operation ≡ option_map (λ request. request.operation) self.now.asked) }
+    {
+        match &self.asked {
+            None => Ok(None),
+            Some(request) => Ok(Some(request.operation.copy()?)),
+        }
     }
 
     /// The reply has come. The result is where a message goes.

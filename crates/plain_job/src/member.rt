@@ -92,7 +92,10 @@ impl Member {
     {
         match self.rank.step()? {
             Step::Local { began: _ } => Ok(Progress::Went),
-            Step::Wants(op) => self.operate(me, op, channels),
+            Step::Wants => match self.rank.operation()? {
+                None => Ok(Progress::Went),
+                Some(op) => self.operate(me, op, channels),
+            },
             Step::Ended(end) => {
                 self.end = Some(end);
                 Ok(Progress::Stopped)
