@@ -7,6 +7,7 @@ use Rattle.c_tree.specs.declared.tree.Declaration.{Declaration}
 use Rattle.c_tree.specs.declared.tree.Arm.{Arm}
 use Rattle.c_tree.specs.declared.tree.Expr.{Expr}
 use Rattle.c_tree.specs.declared.tree.Stmt.{Stmt}
+use Rattle.c_tree.specs.declared.tree.Text.{Text}
 use Rattle.c_tree.specs.declared.tree.Stmt.TheFolds.{fold-roll-Stmt, map-Stmt}
 use Rattle.c_tree.specs.declared.tree.Stmt.TheOpen.{Stmt-F}
 use Rattle.c_tree.specs.declared.tree.Stmt.TheVariants as stmt
@@ -15,10 +16,10 @@ use Rattle.c_kernel.specs.declared.types.CType.{CType}
 use Rattle.c_kernel.specs.declared.types.Struct.{Struct}
 use Rattle.c_rules.specs.declared.fault.Fault.{Fault}
 use Rattle.c_rules.specs.declared.signature.Signature.{Signature}
-use Rattle.c_rules.specs.Judged.{gathered}
+use Rattle.c_rules.specs.Judged.{gathered, of_part}
 use Rattle.c_rules.proofs.Gathered.{joined, joined_more}
 use Rattle.c_rules.specs.Scope.{Bytes, Scope}
-use Rattle.c_check.specs.Statement.{Walk, Node, statement_node, walked, walk_as, walk_all, scoped, one, later_arm, walked_guarded, walked_arm, walked_later, block_item, node_item, branches, node_arm, walked_items, walked_branches}
+use Rattle.c_check.specs.Statement.{Walk, Node, statement_node, walked, walk_as, walk_all, staying, scoped, one, values, printed, later_arm, walked_guarded, walked_arm, walked_later, block_item, node_item, branches, node_arm, walked_items, walked_branches}
 use Rattle.c_check.specs.Program.{body_item}
 use Rattle.c_check.proofs.Nodes.{map_same, drop_next}
 use Rattle.c_kernel.specs.declared.program.Stmt.{Stmt as Typed}
@@ -92,6 +93,11 @@ module _ (functions : Bytes → Option Signature) (structs : List Struct) (resul
   in_do at body e x looping s is =
       ap (λ (y : Stmt). walked functions structs result y looping s) (is ∙ sym (stmt.rolls-DoWhile at body e))
       ∙ ap (λ (w : Node functions structs). w looping s) (walked_roll (Stmt-F.DoWhile at body e))
+
+  pub in_print : (at : ℕ) (format : Text) (es : List Expr) (x : Stmt) (looping : Bool) (s : Scope) → x ≡ stmt.Print at format es → walked functions structs result x looping s ≡ staying (of_part (values functions structs s es) (printed format)) s
+  in_print at format es x looping s is =
+      ap (λ (y : Stmt). walked functions structs result y looping s) (is ∙ sym (stmt.rolls-Print at format es))
+      ∙ ap (λ (w : Node functions structs). w looping s) (walked_roll (Stmt-F.Print at format es))
 
   pub later_step : (looping : Bool) (rest : List (Arm Stmt)) (i : ℕ) (x : Arm Stmt) (s : Scope) → i < length rest → x ≡ get_or rest i x
       → walked_later functions structs result looping (drop i rest) s ≡ walk_all (walked_arm functions structs result looping x.test x.then ∷ map (later_arm functions structs looping) (map (node_arm functions structs result) (drop (i + 1) rest))) s

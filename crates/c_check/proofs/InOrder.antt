@@ -1,22 +1,17 @@
 -- Items in order, and what is noted of them.
-use Rattle.std.proofs.Common.{◌≡◌, ℕ, ◌+◌, ◌<◌, get_or, drop, length, List, [], ◌∷◌, ◌++◌, Option, Some, None, option_map, refl, ap, ◌∙◌, sym, append_assoc, append-nil, arith}
+use Rattle.std.proofs.Common.{◌≡◌, ℕ, ◌+◌, ◌<◌, get_or, drop, length, List, [], ◌++◌, Option, Some, None, option_map, refl, ap, ◌∙◌, sym, append_assoc, append-nil}
 use Rattle.c_tree.specs.declared.tree.Item.{Item}
 use Rattle.c_kernel.specs.declared.program.Function.{Function}
 use Rattle.c_kernel.specs.declared.types.Struct.{Struct}
 use Rattle.c_rules.specs.declared.fault.Fault.{Fault}
 use Rattle.c_rules.specs.declared.signature.Signature.{Signature}
-use Rattle.c_rules.specs.Judged.{Judged, by, sound, given, both}
+use Rattle.c_rules.specs.Judged.{Judged, by, given, both}
 use Rattle.c_rules.specs.Scope.{Bytes}
 use Rattle.c_rules.proofs.Gathered.{joined}
 use Rattle.c_check.specs.Functions.{next_number}
 use Rattle.c_check.specs.Program.{item_judged, items_judged}
 use Rattle.c_check.specs.Structs.{with_item, all_structs}
 use Rattle.c_check.proofs.Nodes.{drop_next}
-
--- where faults were added, nothing is found
-pub broken : {A : Type 0} (x : A) (before after faults : List Fault) → after ≡ before ++ faults → length before < length after → None ≡ sound faults x
-broken x before after [] e more = absurd (omega (arith, ap length (e ∙ append-nil before), more))
-broken x before after (f ∷ fs) e more = refl
 
 -- two lists of what is found
 module _ {A : Type 0} where

@@ -12,3 +12,4 @@ pub mod Tables
 pub mod InOrder
 pub mod Bodies
 pub mod Silences
+pub mod Steps

@@ -1,6 +1,6 @@
 -- The typed program of a tree that breaks no rule is regular.
 use Rattle.std.proofs.Common.{◌≡◌, refl, ap, sym, ◌∙◌, subst, ℕ, zero, suc, ◌+◌, ◌*◌, ◌≤◌, ◌<◌, List, [], ◌∷◌, ◌++◌, length, map, Bool, true, false, Option, Some, None, IfSome, arith, length-append}
-use Rattle.std.specs.Prelude.{⊤, ◌&&◌, ◌||◌, not, max, nat_le, nat_lt, nat_eq, is_none, option_map, if◌then◌else◌}
+use Rattle.std.specs.Prelude.{⊤, ◌&&◌, ◌||◌, not, nat_lt, nat_eq, is_none, option_map, if◌then◌else◌}
 use Rattle.std.specs.List.{list_all}
 use Rattle.std.proofs.lemmas.Bool.Decides.{nat_tests}
 use Rattle.std.proofs.lemmas.List.Folds.{list_all-append}
@@ -51,9 +51,9 @@ use Rattle.c_rules.specs.declared.fault.Fault.{Fault}
 use Rattle.c_rules.specs.declared.found.Found.{Found}
 use Rattle.c_rules.specs.declared.signature.Signature.{Signature}
 use Rattle.c_rules.specs.Format.{pieces}
-use Rattle.c_rules.specs.Judged.{Judged, breaks, by, sound, given, both, after, of_part, as_part, pair_of, more, perhaps, unless_broken}
+use Rattle.c_rules.specs.Judged.{Judged, breaks, by, sound, given, both, of_part, more, perhaps, unless_broken}
 use Rattle.c_rules.specs.Rules.{main_name}
-use Rattle.c_rules.specs.Scope.{Bytes, Scope, is_here, declare, enter, leave, start}
+use Rattle.c_rules.specs.Scope.{Bytes, Scope, is_here, enter, leave, start}
 use Rattle.c_rules.specs.Types.{type_of, specifier_rules, object_type, sized, room, is_array_size, element_cells, is_incomplete, is_too_large, is_void_base, is_struct_base, is_struct, one_object, first_structs}
 use Rattle.c_check.specs.Expression.{judged}
 use Rattle.c_check.specs.Functions.{is_main, parameter_type, parameters_of, result_of, parameter_place, is_bad_bound, is_unfit, is_named_here, parameter_rules, with_name, with_parameter, parameters_rules, with_parameters, parts_rules, heading_rules, name_rules, type_rules, next_number, number_in, signatures}

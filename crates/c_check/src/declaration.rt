@@ -1,28 +1,27 @@
 //! Declarations.
 
-ghost use Rattle.std.specs.Prelude.{◌≡◌, ◌++◌, IfOk, OnOk, map};
+ghost use Rattle.std.specs.Prelude.{◌≡◌, IfOk, OnOk, map};
+ghost use Rattle.c_kernel.specs.declared.program.Stmt.TheVariants as typed;
+ghost use Rattle.c_rules.specs.Judged.{Notes};
 ghost use Rattle.c_rules.specs.Scope.{scope_of};
-ghost use Rattle.c_rules.specs.Table.{called};
 ghost use Rattle.c_rules.specs.Types as types;
 ghost use Rattle.c_check.specs.Statement as walk;
+ghost use Rattle.c_check.specs.Told.{Tells, Walks, among, knowing};
 
-use crate::expression::gather;
-use crate::statement::{assign, right};
-use c_kernel::program::Action;
+use crate::judge::{Answer, Judge, Known, Names};
+use crate::parts::gather_inner;
+use crate::walker::Walker;
+use c_kernel::program::{Action, Stmt as Typed};
 use c_kernel::{CType, ObjectType, Struct};
-use c_rules::fault::{Fault, rule};
 use c_rules::found::Found;
 use c_rules::rules::{place, variable};
-use c_rules::scope::Scope;
-use c_rules::signature::Signature;
 use c_rules::types::{element_cells, is_incomplete, note_specifier, object_type, room, type_of};
 use c_tree::Kind;
-use c_tree::tree::{Declaration, Expr, InitDeclarator, Number, TypeSpecifier};
-use indexmap::IndexMap;
+use c_tree::tree::{Declaration, Expr, ForStart, InitDeclarator, Number, TypeSpecifier};
 use sqlite_items::{Boxed, Items};
 use std::alloc::{AllocError, Global};
 
-// The sizes of an array, the outermost first.
+/// The sizes of an array, the outermost first.
 pub fn sizes_of(alloc: Global, sizes: &[Number]) -> Result<Items<u64>, AllocError>
     ensures { IfOk result (λ values. values ≡ map (λ n. n.value) sizes.now) }
 {
@@ -34,7 +33,7 @@ pub fn sizes_of(alloc: Global, sizes: &[Number]) -> Result<Items<u64>, AllocErro
 }
 
 /// Whether an object of these sizes has none that may be, by one of them or by all its cells.
-pub fn is_too_large(
+fn is_too_large(
     alloc: Global,
     structs: &[Struct],
     kind: CType,
@@ -48,7 +47,7 @@ pub fn is_too_large(
 }
 
 /// The type of an object of these sizes.
-pub fn object_of(
+fn object_of(
     alloc: Global,
     structs: &[Struct],
     kind: CType,
@@ -60,124 +59,128 @@ pub fn object_of(
     object_type(alloc, structs, kind, sizes.as_slice())
 }
 
-#[tactic(auto, using(std::proofs::Common::append_assoc))]
-fn note_variable(
-    alloc: Global,
-    faults: &mut Vec<Fault>,
-    structs: &[Struct],
-    scope: &Scope,
-    kind: CType,
-    d: &InitDeclarator,
-) -> Result<(), AllocError>
-    ensures { OnOk result (faults.new.items ≡ faults.old.items ++ walk.variable_rules structs.now (scope_of scope.now) kind d.now) }
-{
-    let again = scope.is_here(d.name.bytes.as_slice());
-    rule(faults, again, Kind::Redeclared, d.name.at)?;
-    let large = is_too_large(alloc, structs, kind, d.sizes.as_slice())?;
-    rule(faults, large, Kind::ArraySize, d.name.at)?;
-    let incomplete = is_incomplete(structs, kind);
-    rule(faults, incomplete, Kind::IncompleteType, d.name.at)
+impl Judge {
+    #[tactic(auto, using(std::proofs::Common::append_assoc))]
+    fn note_variable(
+        &mut self,
+        names: Names<'_>,
+        kind: CType,
+        d: &InitDeclarator,
+    ) -> Result<(), AllocError>
+        ensures { OnOk result (Notes self.old.breaches self.new.breaches (walk.variable_rules names.entry.known.structs.now (scope_of names.entry.scope.now) kind d.now)) }
+    {
+        let structs = names.known.structs;
+        let again = names.scope.is_here(d.name.bytes.as_slice());
+        self.rule(again, Kind::Redeclared, d.name.at)?;
+        let large = is_too_large(self.alloc, structs, kind, d.sizes.as_slice())?;
+        self.rule(large, Kind::ArraySize, d.name.at)?;
+        self.rule(
+            is_incomplete(structs, kind),
+            Kind::IncompleteType,
+            d.name.at,
+        )
+    }
+
+    // A variable's initialiser, or zeros.
+    #[tactic(auto, using(std::proofs::Common::append_assoc))]
+    fn initial(
+        &mut self,
+        names: Names<'_>,
+        v: Boxed<Found>,
+        number: usize,
+        e: &Option<Expr>,
+    ) -> Answer<Boxed<Action>>
+        ensures { IfOk result (λ found. Tells self.old self.new found (among names.entry walk.initial v e.now number)) }
+    {
+        match e {
+            None => Ok(Some(Boxed::new(self.alloc, Action::Zero(number))?)),
+            Some(e) => match self.right(names, e)? {
+                None => Ok(None),
+                Some(r) => self.assign(names.known.structs, v, r),
+            },
+        }
+    }
 }
 
-// A variable's initialiser, or zeros.
-fn initial(
-    alloc: Global,
-    faults: &mut Vec<Fault>,
-    functions: &IndexMap<Vec<u8>, Signature>,
-    structs: &[Struct],
-    scope: &Scope,
-    v: Boxed<Found>,
-    number: usize,
-    e: &Option<Expr>,
-) -> Result<Option<Action>, AllocError>
-    ensures found { IfOk result (λ found. found ≡ (walk.initial (called functions.now.entries) structs.now (scope_of scope.now) v e.now number).found) }
-    ensures faults { OnOk result (faults.new.items ≡ faults.old.items ++ (walk.initial (called functions.now.entries) structs.now (scope_of scope.now) v e.now number).faults) }
-{
-    match e {
-        None => Ok(Some(Action::Zero(number))),
-        Some(e) => match right(alloc, faults, functions, structs, scope, e)? {
+impl Walker {
+    // A variable, which is in scope from its own initialiser on.
+    #[tactic(auto, using(std::proofs::Common::append_assoc))]
+    fn variable(
+        &mut self,
+        known: Known<'_>,
+        t: &TypeSpecifier,
+        d: &InitDeclarator,
+    ) -> Answer<Boxed<Action>>
+        ensures { IfOk result (λ found. Walks self.old self.new found (knowing known.entry walk.variable_walk t.now d.now)) }
+    {
+        let alloc = self.judge.alloc;
+        let structs = known.structs;
+        let kind = type_of(structs, None, t, d.stars);
+        let scope = &self.scope;
+        self.judge.note_variable(Names { known, scope }, kind, d)?;
+        let object = object_of(alloc, structs, kind, d.sizes.as_slice())?;
+        let number = self.scope.variables.len();
+        self.scope
+            .declare(alloc, d.name.bytes.as_slice(), object.copy(alloc)?)?;
+        let whole = Boxed::new(alloc, variable(alloc, number))?;
+        let v = place(alloc, d.name.at, object, whole)?;
+        let scope = &self.scope;
+        self.judge
+            .initial(Names { known, scope }, v, number, &d.value)
+    }
+
+    // Variables of one type specifier, in order.
+    #[tactic(auto, using(std::proofs::Common::append_assoc))]
+    fn variables(
+        &mut self,
+        known: Known<'_>,
+        t: &TypeSpecifier,
+        ds: &[InitDeclarator],
+    ) -> Answer<Items<Action>>
+        ensures { IfOk result (λ found. Walks self.old self.new found (walk.walk_all (map (knowing known.entry walk.variable_walk t.now) ds.now))) }
+    {
+        let mut found = Some(Items::new(self.judge.alloc));
+        for d in ds {
+            let one = self.variable(known, t, d)?;
+            found = gather_inner(found, one)?;
+        }
+        Ok(found)
+    }
+
+    /// The variables of a declaration, which come into scope.
+    #[tactic(auto, using(std::proofs::Common::append_assoc))]
+    pub fn declaration(&mut self, known: Known<'_>, d: &Declaration) -> Answer<Items<Action>>
+        ensures { IfOk result (λ found. Walks self.old self.new found (knowing known.entry walk.declaration d.now)) }
+    {
+        note_specifier(&mut self.judge.breaches, known.structs, None, &d.specifier)?;
+        self.variables(known, &d.specifier, d.declarators.as_slice())
+    }
+
+    /// A declaration as a statement.
+    pub fn declaration_statement(
+        &mut self,
+        known: Known<'_>,
+        d: &Declaration,
+    ) -> Answer<Boxed<Typed>>
+        ensures { IfOk result (λ found. Walks self.old self.new found (walk.walk_as typed.Actions (knowing known.entry walk.declaration d.now))) }
+    {
+        match self.declaration(known, d)? {
             None => Ok(None),
-            Some(r) => assign(alloc, faults, structs, v, r),
-        },
+            Some(actions) => Ok(Some(Boxed::new(self.judge.alloc, Typed::Actions(actions))?)),
+        }
     }
-}
 
-// A variable, which is in scope from its own initialiser on.
-#[tactic(auto, using(std::proofs::Common::append_assoc))]
-fn variable_walk(
-    alloc: Global,
-    faults: &mut Vec<Fault>,
-    functions: &IndexMap<Vec<u8>, Signature>,
-    structs: &[Struct],
-    scope: &mut Scope,
-    t: &TypeSpecifier,
-    d: &InitDeclarator,
-) -> Result<Option<Action>, AllocError>
-    ensures found { IfOk result (λ found. found ≡ (walk.variable_walk (called functions.now.entries) structs.now t.now d.now (scope_of scope.old)).judged.found) }
-    ensures faults { OnOk result (faults.new.items ≡ faults.old.items ++ (walk.variable_walk (called functions.now.entries) structs.now t.now d.now (scope_of scope.old)).judged.faults) }
-    ensures scope { OnOk result (scope_of scope.new ≡ (walk.variable_walk (called functions.now.entries) structs.now t.now d.now (scope_of scope.old)).scope) }
-    ensures around { OnOk result ((scope_of scope.new).around ≡ (scope_of scope.old).around) }
-{
-    let kind = type_of(structs, None, t, d.stars);
-    note_variable(alloc, faults, structs, scope, kind, d)?;
-    let object = object_of(alloc, structs, kind, d.sizes.as_slice())?;
-    let number = scope.variables.len();
-    scope.declare(alloc, d.name.bytes.as_slice(), object.copy(alloc)?)?;
-    let whole = Boxed::new(alloc, variable(alloc, number))?;
-    let v = place(alloc, d.name.at, object, whole)?;
-    initial(
-        alloc, faults, functions, structs, scope, v, number, &d.value,
-    )
-}
-
-// Variables of one type specifier, in order.
-#[tactic(auto, using(std::proofs::Common::append_assoc))]
-fn variables(
-    alloc: Global,
-    faults: &mut Vec<Fault>,
-    functions: &IndexMap<Vec<u8>, Signature>,
-    structs: &[Struct],
-    scope: &mut Scope,
-    t: &TypeSpecifier,
-    ds: &[InitDeclarator],
-) -> Result<Option<Items<Action>>, AllocError>
-    ensures found { IfOk result (λ found. found ≡ (walk.walk_all (map (walk.variable_walk (called functions.now.entries) structs.now t.now) ds.now) (scope_of scope.old)).judged.found) }
-    ensures faults { OnOk result (faults.new.items ≡ faults.old.items ++ (walk.walk_all (map (walk.variable_walk (called functions.now.entries) structs.now t.now) ds.now) (scope_of scope.old)).judged.faults) }
-    ensures scope { OnOk result (scope_of scope.new ≡ (walk.walk_all (map (walk.variable_walk (called functions.now.entries) structs.now t.now) ds.now) (scope_of scope.old)).scope) }
-    ensures around { OnOk result ((scope_of scope.new).around ≡ (scope_of scope.old).around) }
-{
-    let mut found = Some(Items::new(alloc));
-    for d in ds {
-        let one = variable_walk(alloc, faults, functions, structs, scope, t, d)?;
-        found = gather(found, one)?;
+    /// What stands before the first semicolon of a `for`.
+    pub fn start(&mut self, known: Known<'_>, s: &Option<ForStart>) -> Answer<Items<Action>>
+        ensures { IfOk result (λ found. Walks self.old self.new found (knowing known.entry walk.start s.now)) }
+    {
+        match s {
+            None => Ok(Some(Items::new(self.judge.alloc))),
+            Some(ForStart::Declaration(d)) => self.declaration(known, d),
+            Some(ForStart::Simple(x)) => {
+                let scope = &self.scope;
+                self.judge.simple_actions(Names { known, scope }, x)
+            }
+        }
     }
-    Ok(found)
-}
-
-/// The variables of a declaration, which come into scope.
-#[tactic(auto, using(std::proofs::Common::append_assoc))]
-pub fn declaration(
-    alloc: Global,
-    faults: &mut Vec<Fault>,
-    functions: &IndexMap<Vec<u8>, Signature>,
-    structs: &[Struct],
-    scope: &mut Scope,
-    d: &Declaration,
-) -> Result<Option<Items<Action>>, AllocError>
-    ensures found { IfOk result (λ found. found ≡ (walk.declaration (called functions.now.entries) structs.now d.now (scope_of scope.old)).judged.found) }
-    ensures faults { OnOk result (faults.new.items ≡ faults.old.items ++ (walk.declaration (called functions.now.entries) structs.now d.now (scope_of scope.old)).judged.faults) }
-    ensures scope { OnOk result (scope_of scope.new ≡ (walk.declaration (called functions.now.entries) structs.now d.now (scope_of scope.old)).scope) }
-    ensures around { OnOk result ((scope_of scope.new).around ≡ (scope_of scope.old).around) }
-{
-    note_specifier(faults, structs, None, &d.specifier)?;
-    let declarators = d.declarators.as_slice();
-    variables(
-        alloc,
-        faults,
-        functions,
-        structs,
-        scope,
-        &d.specifier,
-        declarators,
-    )
 }

@@ -27,25 +27,25 @@ impl From<AllocError> for CheckFault {
     }
 }
 
-/// The first of the faults.
-pub fn first(faults: &[Fault]) -> Option<Fault>
-    ensures { result ≡ program.first faults.now }
+/// The first of the breaches.
+pub fn first(breaches: &[Fault]) -> Option<Fault>
+    ensures { result ≡ program.first breaches.now }
 {
     let mut found = None;
-    for fault in faults {
-        found = sooner(found, *fault);
+    for breach in breaches {
+        found = sooner(found, *breach);
     }
     found
 }
 
-fn sooner(found: Option<Fault>, fault: Fault) -> Option<Fault>
-    ensures { result ≡ program.sooner found fault }
+fn sooner(found: Option<Fault>, breach: Fault) -> Option<Fault>
+    ensures { result ≡ program.sooner found breach }
 {
     match found {
-        None => Some(fault),
+        None => Some(breach),
         Some(earlier) => {
-            if precedes(fault, earlier) {
-                Some(fault)
+            if precedes(breach, earlier) {
+                Some(breach)
             } else {
                 Some(earlier)
             }

@@ -1,31 +1,38 @@
 //! Statements, from what their parts are found to be.
 
-ghost use Rattle.std.specs.Prelude.{◌≡◌, IfOk, option_map};
+ghost use Rattle.std.specs.Prelude.{◌≡◌, IfOk, Some, option_map};
+ghost use Rattle.c_kernel.specs.declared.program.Stmt.TheVariants as typed;
 ghost use Rattle.c_rules.specs.Judged as nodes;
 ghost use Rattle.c_check.specs.Statement as walk;
-ghost use Rattle.c_kernel.specs.declared.program.Stmt.TheVariants as typed;
 
-use crate::expression::both;
-use crate::single::one;
+use crate::judge::Answer;
+use crate::parts::{both, listed, one};
 use c_kernel::program::{Action, Arm, Expr as Term, Stmt as Typed};
 use sqlite_items::{Boxed, Items};
-use std::alloc::{AllocError, Global};
+use std::alloc::Global;
+
+/// What is done at once.
+pub fn actions_of(alloc: Global, actions: Items<Action>) -> Answer<Boxed<Typed>>
+    ensures { IfOk result (λ found. found ≡ Some (typed.Actions actions)) }
+{
+    Ok(Some(Boxed::new(alloc, Typed::Actions(actions))?))
+}
 
 /// A block.
-pub fn block_of(steps: Option<Items<Typed>>) -> Option<Typed>
-    ensures { result ≡ option_map typed.Block steps }
+pub fn block_of(alloc: Global, steps: Option<Items<Typed>>) -> Answer<Boxed<Typed>>
+    ensures { IfOk result (λ found. found ≡ option_map typed.Block steps) }
 {
     match steps {
-        None => None,
-        Some(steps) => Some(Typed::Block(steps)),
+        None => Ok(None),
+        Some(steps) => Ok(Some(Boxed::new(alloc, Typed::Block(steps))?)),
     }
 }
 
 /// A branch of an `if`.
 pub fn arm_of(
     alloc: Global,
-    parts: Option<(Boxed<Term>, Typed)>,
-) -> Result<Option<Arm<Typed>>, AllocError>
+    parts: Option<(Boxed<Term>, Boxed<Typed>)>,
+) -> Answer<Boxed<Arm<Typed>>>
     ensures { IfOk result (λ found. found ≡ option_map walk.branch_of parts) }
 {
     match parts {
@@ -33,44 +40,27 @@ pub fn arm_of(
         Some((test, body)) => {
             let body = one(alloc, body)?;
             let test = test.into_inner();
-            Ok(Some(Arm { test, body }))
-        }
-    }
-}
-
-/// One and more, where all are sound.
-pub fn more<T: Drop>(
-    alloc: Global,
-    first: Option<T>,
-    rest: Option<Items<T>>,
-) -> Result<Option<Items<T>>, AllocError>
-    ensures { IfOk result (λ found. found ≡ nodes.more first rest) }
-{
-    match both(first, rest) {
-        None => Ok(None),
-        Some((first, rest)) => {
-            let mut items = one(alloc, first)?;
-            items.append(rest)?;
-            Ok(Some(items))
+            Ok(Some(Boxed::new(alloc, Arm { test, body })?))
         }
     }
 }
 
 /// An `if`.
-pub fn if_of(arms: Option<Items<Arm<Typed>>>, last: Option<Items<Typed>>) -> Option<Typed>
-    ensures { result ≡ option_map (λ p. typed.If p.0 p.1) (nodes.both arms last) }
+pub fn if_of(
+    alloc: Global,
+    arms: Option<Items<Arm<Typed>>>,
+    last: Option<Items<Typed>>,
+) -> Answer<Boxed<Typed>>
+    ensures { IfOk result (λ found. found ≡ option_map (λ p. typed.If p.0 p.1) (nodes.both arms last)) }
 {
     match both(arms, last) {
-        None => None,
-        Some((arms, otherwise)) => Some(Typed::If { arms, otherwise }),
+        None => Ok(None),
+        Some((arms, otherwise)) => Ok(Some(Boxed::new(alloc, Typed::If { arms, otherwise })?)),
     }
 }
 
 /// A `while`.
-pub fn while_of(
-    alloc: Global,
-    parts: Option<(Boxed<Term>, Typed)>,
-) -> Result<Option<Typed>, AllocError>
+pub fn while_of(alloc: Global, parts: Option<(Boxed<Term>, Boxed<Typed>)>) -> Answer<Boxed<Typed>>
     ensures { IfOk result (λ found. found ≡ option_map (λ p. typed.While p.0 (walk.one p.1)) parts) }
 {
     match parts {
@@ -78,16 +68,13 @@ pub fn while_of(
         Some((test, body)) => {
             let body = one(alloc, body)?;
             let test = test.into_inner();
-            Ok(Some(Typed::While { test, body }))
+            Ok(Some(Boxed::new(alloc, Typed::While { test, body })?))
         }
     }
 }
 
 /// A `do`.
-pub fn do_of(
-    alloc: Global,
-    parts: Option<(Boxed<Term>, Typed)>,
-) -> Result<Option<Typed>, AllocError>
+pub fn do_of(alloc: Global, parts: Option<(Boxed<Term>, Boxed<Typed>)>) -> Answer<Boxed<Typed>>
     ensures { IfOk result (λ found. found ≡ option_map (λ p. typed.DoWhile (walk.one p.1) p.0) parts) }
 {
     match parts {
@@ -95,18 +82,8 @@ pub fn do_of(
         Some((test, body)) => {
             let body = one(alloc, body)?;
             let test = test.into_inner();
-            Ok(Some(Typed::DoWhile { body, test }))
+            Ok(Some(Boxed::new(alloc, Typed::DoWhile { body, test })?))
         }
-    }
-}
-
-// A list of one, or of none.
-fn listed(alloc: Global, x: Option<Boxed<Action>>) -> Result<Items<Action>, AllocError>
-    ensures { IfOk result (λ xs. xs ≡ walk.listed x) }
-{
-    match x {
-        None => Ok(Items::new(alloc)),
-        Some(x) => one(alloc, x.into_inner()),
     }
 }
 
@@ -116,8 +93,8 @@ pub fn for_of(
     start: Option<Items<Action>>,
     test: Option<Option<Boxed<Term>>>,
     step: Option<Option<Boxed<Action>>>,
-    body: Option<Typed>,
-) -> Result<Option<Typed>, AllocError>
+    body: Option<Boxed<Typed>>,
+) -> Answer<Boxed<Typed>>
     ensures { IfOk result (λ found. found ≡ option_map (λ p. typed.For p.0.0 p.0.1 (walk.listed p.1.0) (walk.one p.1.1)) (nodes.both (nodes.both start test) (nodes.both step body))) }
 {
     match both(both(start, test), both(step, body)) {
@@ -125,12 +102,16 @@ pub fn for_of(
         Some(((start, test), (step, body))) => {
             let body = one(alloc, body)?;
             let step = listed(alloc, step)?;
-            Ok(Some(Typed::For {
-                start,
-                test: test.map(Boxed::into_inner),
-                step,
-                body,
-            }))
+            let test = test.map(Boxed::into_inner);
+            Ok(Some(Boxed::new(
+                alloc,
+                Typed::For {
+                    start,
+                    test,
+                    step,
+                    body,
+                },
+            )?))
         }
     }
 }

@@ -1,13 +1,15 @@
 //! Headers and their parameters.
 
-ghost use Rattle.std.specs.Prelude.{◌≡◌, ◌++◌, ◌&&◌, not, IfOk, OnOk};
+ghost use Rattle.std.specs.Prelude.{◌≡◌, ◌&&◌, not, IfOk, OnOk};
 ghost use Rattle.std.specs.Option.{option_copied};
+ghost use Rattle.c_rules.specs.Judged.{Notes};
 ghost use Rattle.c_rules.specs.Scope.{scope_of, start};
 ghost use Rattle.c_rules.specs.Table.{called};
 ghost use Rattle.c_check.specs.Functions as headers;
+ghost use Rattle.c_check.specs.Told.{knowing};
 
+use crate::judge::{Judge, Known};
 use c_kernel::{CType, Struct};
-use c_rules::fault::{Fault, rule};
 use c_rules::scope::Scope;
 use c_rules::signature::{Signature, function};
 use c_rules::types::{
@@ -20,48 +22,6 @@ use indexmap::IndexMap;
 use sqlite_items::Items;
 use std::alloc::{AllocError, Global};
 
-/// The rules of a header, and the names of its parameters in scope.
-#[tactic(auto, using(std::proofs::Common::append_assoc))]
-pub fn heading(
-    alloc: Global,
-    faults: &mut Vec<Fault>,
-    functions: &IndexMap<Vec<u8>, Signature>,
-    structs: &[Struct],
-    k: usize,
-    defined: bool,
-    h: &Heading,
-) -> Result<Scope, AllocError>
-    ensures scope { IfOk result (λ scope. scope_of scope ≡ headers.with_parameters structs.now (headers.is_main h.now) start (headers.parameters_of h.now.parameters)) }
-    ensures faults { OnOk result (faults.new.items ≡ faults.old.items ++ headers.heading_rules (called functions.now.entries) structs.now k defined h.now) }
-{
-    let before = faults.len();
-    let scope = parts(alloc, faults, structs, defined, h)?;
-    let sound = faults.len() == before;
-    note_name(faults, functions, k, defined, h)?;
-    if !sound {
-        return Ok(scope);
-    }
-    note_types(alloc, faults, functions, structs, h)?;
-    Ok(scope)
-}
-
-// The rules of its parts, and the names of its parameters in scope.
-#[tactic(auto, using(std::proofs::Common::append_assoc))]
-fn parts(
-    alloc: Global,
-    faults: &mut Vec<Fault>,
-    structs: &[Struct],
-    defined: bool,
-    h: &Heading,
-) -> Result<Scope, AllocError>
-    ensures scope { IfOk result (λ scope. scope_of scope ≡ headers.with_parameters structs.now (headers.is_main h.now) start (headers.parameters_of h.now.parameters)) }
-    ensures faults { OnOk result (faults.new.items ≡ faults.old.items ++ headers.parts_rules structs.now defined h.now) }
-{
-    note_specifier(faults, structs, None, &h.specifier)?;
-    let parameters = parameters_of(h.parameters.as_slice());
-    into_scope(alloc, faults, structs, is_main(h), defined, parameters)
-}
-
 /// Whether it breaks no rule by itself.
 pub fn is_sound(
     alloc: Global,
@@ -71,9 +31,9 @@ pub fn is_sound(
 ) -> Result<bool, AllocError>
     ensures { IfOk result (λ sound. sound ≡ headers.is_sound structs.now defined h.now) }
 {
-    let mut faults = Vec::new(alloc);
-    parts(alloc, &mut faults, structs, defined, h)?;
-    Ok(faults.len() == 0 && !is_bad_result(result_of(structs, h)))
+    let mut judge = Judge::new(alloc);
+    judge.parts(structs, defined, h)?;
+    Ok(judge.mark() == 0 && !is_bad_result(result_of(structs, h)))
 }
 
 fn is_word(specifier: &TypeSpecifier, word: PlainType) -> bool
@@ -137,41 +97,7 @@ fn parameters_of(parameters: &[Parameter]) -> &[Parameter]
     }
 }
 
-// ---- the name and the types
-
-#[tactic(auto, using(std::proofs::Common::append_assoc))]
-fn note_name(
-    faults: &mut Vec<Fault>,
-    functions: &IndexMap<Vec<u8>, Signature>,
-    k: usize,
-    defined: bool,
-    h: &Heading,
-) -> Result<(), AllocError>
-    ensures { OnOk result (faults.new.items ≡ faults.old.items ++ headers.name_rules (called functions.now.entries) k defined h.now) }
-{
-    let first = function(functions, h.name.bytes.as_slice());
-    let second = is_second(k, defined, first);
-    rule(faults, second, Kind::Redeclared, h.name.at)?;
-    rule(faults, is_bad_main(defined, h), Kind::BadMain, h.name.at)
-}
-
-#[tactic(auto, using(std::proofs::Common::append_assoc))]
-fn note_types(
-    alloc: Global,
-    faults: &mut Vec<Fault>,
-    functions: &IndexMap<Vec<u8>, Signature>,
-    structs: &[Struct],
-    h: &Heading,
-) -> Result<(), AllocError>
-    ensures { OnOk result (faults.new.items ≡ faults.old.items ++ headers.type_rules (called functions.now.entries) structs.now h.now) }
-{
-    let at = h.name.at;
-    let bad = is_bad_result(result_of(structs, h));
-    rule(faults, bad, Kind::IncompleteType, at)?;
-    let first = function(functions, h.name.bytes.as_slice());
-    let differs = differs(alloc, structs, h, first)?;
-    rule(faults, differs, Kind::PrototypeDiffers, at)
-}
+// ---- its name and types
 
 // Whether its name has an earlier definition.
 fn is_second(k: usize, defined: bool, first: Option<&Signature>) -> bool
@@ -261,54 +187,6 @@ fn is_vector(p: &Parameter) -> bool
 
 // ---- parameters
 
-// The rules of parameters, and their names in scope.
-#[tactic(auto, using(std::proofs::Common::append_assoc))]
-fn into_scope(
-    alloc: Global,
-    faults: &mut Vec<Fault>,
-    structs: &[Struct],
-    main: bool,
-    defined: bool,
-    parameters: &[Parameter],
-) -> Result<Scope, AllocError>
-    ensures scope { IfOk result (λ scope. scope_of scope ≡ headers.with_parameters structs.now main start parameters.now) }
-    ensures faults { OnOk result (faults.new.items ≡ faults.old.items ++ headers.parameters_rules structs.now main defined start parameters.now) }
-{
-    let mut scope = Scope::new(alloc);
-    for p in parameters {
-        note_parameter(faults, structs, defined, &scope, p)?;
-        with_parameter(alloc, structs, main, p, &mut scope)?;
-    }
-    Ok(scope)
-}
-
-#[tactic(auto, using(std::proofs::Common::append_assoc))]
-fn note_parameter(
-    faults: &mut Vec<Fault>,
-    structs: &[Struct],
-    defined: bool,
-    scope: &Scope,
-    p: &Parameter,
-) -> Result<(), AllocError>
-    ensures { OnOk result (faults.new.items ≡ faults.old.items ++ headers.parameter_rules structs.now defined (scope_of scope.now) p.now) }
-{
-    let at = parameter_place(p);
-    let before = faults.len();
-    note_specifier(faults, structs, None, &p.specifier)?;
-    let sound = faults.len() == before;
-    rule(faults, is_named_here(scope, &p.name), Kind::Redeclared, at)?;
-    if !sound {
-        return Ok(());
-    }
-    rule(faults, is_bad_bound(&p.array), Kind::ArraySize, at)?;
-    rule(
-        faults,
-        is_unfit(structs, defined, p),
-        Kind::IncompleteType,
-        at,
-    )
-}
-
 // Its name, or its type where it has none.
 fn parameter_place(p: &Parameter) -> u32
     ensures { result ≡ headers.parameter_place p.now }
@@ -368,5 +246,111 @@ fn with_parameter(
             let kind = one_object(alloc, structs, parameter_type(structs, p));
             scope.declare(alloc, bytes, kind)
         }
+    }
+}
+
+impl Judge {
+    /// The rules of a header, and the names of its parameters in scope.
+    #[tactic(auto, using(std::proofs::Common::append_assoc))]
+    pub fn heading(
+        &mut self,
+        known: Known<'_>,
+        k: usize,
+        defined: bool,
+        h: &Heading,
+    ) -> Result<Scope, AllocError>
+        ensures scope { IfOk result (λ scope. scope_of scope ≡ headers.with_parameters known.entry.structs.now (headers.is_main h.now) start (headers.parameters_of h.now.parameters)) }
+        ensures breaches { OnOk result (Notes self.old.breaches self.new.breaches (knowing known.entry headers.heading_rules k defined h.now)) }
+    {
+        let mark = self.mark();
+        let scope = self.parts(known.structs, defined, h)?;
+        let broke = self.broke(mark);
+        self.note_name(known.functions, k, defined, h)?;
+        if broke {
+            return Ok(scope);
+        }
+        self.note_types(known, h)?;
+        Ok(scope)
+    }
+
+    // The rules of its parts, and the names of its parameters in scope.
+    #[tactic(auto, using(std::proofs::Common::append_assoc))]
+    fn parts(&mut self, structs: &[Struct], defined: bool, h: &Heading) -> Result<Scope, AllocError>
+        ensures scope { IfOk result (λ scope. scope_of scope ≡ headers.with_parameters structs.now (headers.is_main h.now) start (headers.parameters_of h.now.parameters)) }
+        ensures breaches { OnOk result (Notes self.old.breaches self.new.breaches (headers.parts_rules structs.now defined h.now)) }
+    {
+        note_specifier(&mut self.breaches, structs, None, &h.specifier)?;
+        let parameters = parameters_of(h.parameters.as_slice());
+        self.into_scope(structs, is_main(h), defined, parameters)
+    }
+
+    #[tactic(auto, using(std::proofs::Common::append_assoc))]
+    fn note_name(
+        &mut self,
+        functions: &IndexMap<Vec<u8>, Signature>,
+        k: usize,
+        defined: bool,
+        h: &Heading,
+    ) -> Result<(), AllocError>
+        ensures { OnOk result (Notes self.old.breaches self.new.breaches (headers.name_rules (called functions.now.entries) k defined h.now)) }
+    {
+        let first = function(functions, h.name.bytes.as_slice());
+        let second = is_second(k, defined, first);
+        self.rule(second, Kind::Redeclared, h.name.at)?;
+        self.rule(is_bad_main(defined, h), Kind::BadMain, h.name.at)
+    }
+
+    #[tactic(auto, using(std::proofs::Common::append_assoc))]
+    fn note_types(&mut self, known: Known<'_>, h: &Heading) -> Result<(), AllocError>
+        ensures { OnOk result (Notes self.old.breaches self.new.breaches (knowing known.entry headers.type_rules h.now)) }
+    {
+        let at = h.name.at;
+        let bad = is_bad_result(result_of(known.structs, h));
+        self.rule(bad, Kind::IncompleteType, at)?;
+        let first = function(known.functions, h.name.bytes.as_slice());
+        let differs = differs(self.alloc, known.structs, h, first)?;
+        self.rule(differs, Kind::PrototypeDiffers, at)
+    }
+
+    // The rules of parameters, and their names in scope.
+    #[tactic(auto, using(std::proofs::Common::append_assoc))]
+    fn into_scope(
+        &mut self,
+        structs: &[Struct],
+        main: bool,
+        defined: bool,
+        parameters: &[Parameter],
+    ) -> Result<Scope, AllocError>
+        ensures scope { IfOk result (λ scope. scope_of scope ≡ headers.with_parameters structs.now main start parameters.now) }
+        ensures breaches { OnOk result (Notes self.old.breaches self.new.breaches (headers.parameters_rules structs.now main defined start parameters.now)) }
+    {
+        let mut scope = Scope::new(self.alloc);
+        for p in parameters {
+            self.note_parameter(structs, defined, &scope, p)?;
+            with_parameter(self.alloc, structs, main, p, &mut scope)?;
+        }
+        Ok(scope)
+    }
+
+    #[tactic(auto, using(std::proofs::Common::append_assoc))]
+    fn note_parameter(
+        &mut self,
+        structs: &[Struct],
+        defined: bool,
+        scope: &Scope,
+        p: &Parameter,
+    ) -> Result<(), AllocError>
+        ensures { OnOk result (Notes self.old.breaches self.new.breaches (headers.parameter_rules structs.now defined (scope_of scope.now) p.now)) }
+    {
+        let at = parameter_place(p);
+        let mark = self.mark();
+        note_specifier(&mut self.breaches, structs, None, &p.specifier)?;
+        let broke = self.broke(mark);
+        self.rule(is_named_here(scope, &p.name), Kind::Redeclared, at)?;
+        if broke {
+            return Ok(());
+        }
+        self.rule(is_bad_bound(&p.array), Kind::ArraySize, at)?;
+        self.rule(is_unfit(structs, defined, p), Kind::IncompleteType, at)
     }
 }

@@ -8,34 +8,42 @@ mod fault;
 mod form;
 mod heading;
 mod item;
+mod judge;
 mod mpi;
+mod node;
+mod parts;
+mod right;
 mod single;
 mod statement;
 mod structs;
 mod table;
+mod walker;
 
-ghost use Rattle.std.specs.Prelude.{◌≡◌, ◌++◌, IfOk, OnOk, IfSome, option_map};
+ghost use Rattle.std.specs.Prelude.{◌≡◌, IfOk, IfSome, option_map};
 ghost use Rattle.std.specs.Option.{option_copied};
 ghost use Rattle.c_kernel.specs.Regular.{IsRegular};
 ghost use Rattle.c_rules.specs.Judged as nodes;
-ghost use Rattle.c_rules.specs.Table as tables;
 ghost use Rattle.c_rules.specs.Rules.{main_name};
+ghost use Rattle.c_rules.specs.Table.{called};
 ghost use Rattle.c_check.specs.Check.{Verdict, Judges, said};
 ghost use Rattle.c_check.specs.Functions.{number_in};
 ghost use Rattle.c_check.specs.Program.{judged_tree, main_in, program_of};
+ghost use Rattle.c_check.specs.Statement.{seen_as};
+ghost use Rattle.c_check.specs.Told.{Tells};
 
 use c_kernel::program::Program;
-use c_rules::fault::{Fault, rule};
 use c_rules::signature::{Signature, function};
 use c_tree::Kind;
 use c_tree::tree::Tree;
-use expression::both;
 pub use fault::CheckFault;
 use fault::first;
 use indexmap::IndexMap;
-use item::{Defined, items};
-use std::alloc::{AllocError, Global};
+use item::Defined;
+use judge::{Answer, Judge};
+use parts::both;
+use std::alloc::Global;
 use table::table;
+use walker::Walker;
 
 /// The typed program of a tree, or its first broken rule.
 pub fn check(alloc: Global, tree: &Tree) -> Result<Program, CheckFault>
@@ -45,12 +53,12 @@ pub fn check(alloc: Global, tree: &Tree) -> Result<Program, CheckFault>
     // Its declarations and loops do little at once.
     ensures regular { IfOk result IsRegular }
 {
-    let mut faults = Vec::new(alloc);
-    let found = judged(alloc, &mut faults, tree)?;
-    match first(&faults) {
-        Some(fault) => Err(CheckFault::Broken {
-            kind: fault.kind,
-            at: fault.at,
+    let mut walker = Walker::new(alloc);
+    let found = walker.tree(tree)?;
+    match first(&walker.judge.breaches) {
+        Some(breach) => Err(CheckFault::Broken {
+            kind: breach.kind,
+            at: breach.at,
         }),
         None => match found {
             Some(program) => Ok(program),
@@ -59,36 +67,30 @@ pub fn check(alloc: Global, tree: &Tree) -> Result<Program, CheckFault>
     }
 }
 
-// What a tree is found to be, or nothing where it breaks a rule. Its broken rules are noted.
-fn judged(
-    alloc: Global,
-    faults: &mut Vec<Fault>,
-    tree: &Tree,
-) -> Result<Option<Program>, AllocError>
-    ensures found { IfOk result (λ found. found ≡ option_map (program_of tree.now) (judged_tree tree.now).found) }
-    ensures faults { OnOk result (faults.new.items ≡ faults.old.items ++ (judged_tree tree.now).faults) }
-{
-    let functions = table(alloc, tree.items.as_slice())?;
-    let defined = items(alloc, faults, &functions, tree.items.as_slice())?;
-    let main = main_of(faults, &functions, tree.length)?;
-    Ok(whole(defined, main, tree.any_source))
+impl Walker {
+    // What a tree is found to be, or nothing where it breaks a rule.
+    fn tree(&mut self, tree: &Tree) -> Answer<Program>
+        ensures { IfOk result (λ found. Tells self.old.judge self.new.judge found (seen_as (program_of tree.now) (judged_tree tree.now))) }
+    {
+        let functions = table(self.judge.alloc, tree.items.as_slice())?;
+        let defined = self.items(&functions, tree.items.as_slice())?;
+        let main = self.judge.main_of(&functions, tree.length)?;
+        Ok(whole(defined, main, tree.any_source))
+    }
 }
 
-// The number of the function that a program starts in.
-fn main_of(
-    faults: &mut Vec<Fault>,
-    functions: &IndexMap<Vec<u8>, Signature>,
-    length: u32,
-) -> Result<Option<usize>, AllocError>
-    ensures found { IfOk result (λ found. found ≡ (main_in length (number_in (tables.called functions.now.entries main_name))).found) }
-    ensures faults { OnOk result (faults.new.items ≡ faults.old.items ++ (main_in length (number_in (tables.called functions.now.entries main_name))).faults) }
-{
-    match number(function(functions, b"main")) {
-        None => {
-            rule(faults, true, Kind::NoMain, length)?;
-            Ok(None)
+impl Judge {
+    // The number of the function that a program starts in.
+    fn main_of(&mut self, functions: &IndexMap<Vec<u8>, Signature>, length: u32) -> Answer<usize>
+        ensures { IfOk result (λ found. Tells self.old self.new found (main_in length (number_in (called functions.now.entries main_name)))) }
+    {
+        match number(function(functions, b"main")) {
+            None => {
+                self.rule(true, Kind::NoMain, length)?;
+                Ok(None)
+            }
+            Some(number) => Ok(Some(number)),
         }
-        Some(number) => Ok(Some(number)),
     }
 }
 

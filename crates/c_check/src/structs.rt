@@ -1,12 +1,13 @@
 //! Structs: their members one after the other, and the rules of their definitions (C99 6.7.2.1).
 
-ghost use Rattle.std.specs.Prelude.{◌≡◌, ◌++◌, Some, None, IfOk, OnOk, is_some, if◌then◌else◌};
+ghost use Rattle.std.specs.Prelude.{◌≡◌, Some, None, IfOk, OnOk, is_some, if◌then◌else◌};
+ghost use Rattle.c_rules.specs.Judged.{Notes};
 ghost use Rattle.c_rules.specs.Types as types;
 ghost use Rattle.c_check.specs.Structs as rules;
 
 use crate::declaration::sizes_of;
+use crate::judge::Judge;
 use c_kernel::{Extent, Member, ObjectType, Struct, extent_of};
-use c_rules::fault::{Fault, rule};
 use c_rules::rules::{is_named, member_at};
 use c_rules::types::{
     element_cells, is_incomplete, note_specifier, number_of, object_type, room, type_of,
@@ -15,6 +16,13 @@ use c_tree::Kind;
 use c_tree::tree::{Item, MemberDeclaration, MemberDeclarator, MemberName, Name, TypeSpecifier};
 use sqlite_items::Items;
 use std::alloc::{AllocError, Global};
+
+// The name of a struct whose members are laid out, and the structs before it.
+#[derive(Clone, Copy)]
+struct Own<'a> {
+    structs: &'a [Struct],
+    name: &'a [u8],
+}
 
 // The members so far, the room that they take, and whether one has found none.
 #[derive(Drop)]
@@ -37,25 +45,6 @@ pub fn add_struct(alloc: Global, structs: &mut Items<Struct>, item: &Item) -> Re
     }
 }
 
-/// The rules of a struct's definition.
-#[tactic(auto, using(std::proofs::Common::append_assoc))]
-pub fn note_struct(
-    alloc: Global,
-    faults: &mut Vec<Fault>,
-    structs: &[Struct],
-    name: &Name,
-    members: &[MemberDeclaration],
-) -> Result<(), AllocError>
-    ensures { OnOk result (faults.new.items ≡ faults.old.items ++ rules.struct_rules structs.now name.now members.now) }
-{
-    let known = number_of(structs, name.bytes.as_slice());
-    rule(faults, known.is_some(), Kind::Redeclared, name.at)?;
-    let before = faults.len();
-    let laid = lay_out(alloc, faults, structs, name.bytes.as_slice(), members)?;
-    let sound = faults.len() == before;
-    rule(faults, sound && laid.full, Kind::ArraySize, name.at)
-}
-
 // A struct of these members, whose broken rules are noted elsewhere.
 fn structure(
     alloc: Global,
@@ -65,104 +54,17 @@ fn structure(
 ) -> Result<Struct, AllocError>
     ensures { IfOk result (λ found. found ≡ rules.struct_of name.now.bytes (rules.laid_out structs.now name.now.bytes rules.none_laid members.now)) }
 {
-    let mut unheeded = Vec::new(alloc);
-    let own = name.bytes.as_slice();
-    let Laid {
-        members,
-        extent,
-        ..
-    } = lay_out(alloc, &mut unheeded, structs, own, members)?;
+    let name = name.bytes.as_slice();
+    let mut unheeded = Judge::new(alloc);
+    let laid = unheeded.lay_out(Own { structs, name }, members)?;
     Ok(Struct {
-        name: Items::from_slice(alloc, own)?,
-        members,
-        extent,
+        name: Items::from_slice(alloc, name)?,
+        members: laid.members,
+        extent: laid.extent,
     })
 }
 
 // ---- members one after the other
-
-// The members of a struct, whose broken rules are noted.
-#[tactic(auto, using(std::proofs::Common::append_assoc))]
-fn lay_out(
-    alloc: Global,
-    faults: &mut Vec<Fault>,
-    structs: &[Struct],
-    own: &[u8],
-    members: &[MemberDeclaration],
-) -> Result<Laid, AllocError>
-    ensures laid { IfOk result (λ laid. laid ≡ rules.laid_out structs.now own.now rules.none_laid members.now) }
-    ensures faults { OnOk result (faults.new.items ≡ faults.old.items ++ rules.parts_rules structs.now own.now rules.none_laid members.now) }
-{
-    let mut laid = Laid {
-        members: Items::new(alloc),
-        extent: Extent { cells: 0, size: 0 },
-        full: false,
-    };
-    for part in members {
-        note_specifier(faults, structs, Some(own), &part.specifier)?;
-        lay_members(
-            alloc,
-            faults,
-            structs,
-            own,
-            &part.specifier,
-            &mut laid,
-            part.declarators.as_slice(),
-        )?;
-    }
-    Ok(laid)
-}
-
-// Members of one specifier.
-#[tactic(auto, using(std::proofs::Common::append_assoc))]
-fn lay_members(
-    alloc: Global,
-    faults: &mut Vec<Fault>,
-    structs: &[Struct],
-    own: &[u8],
-    specifier: &TypeSpecifier,
-    laid: &mut Laid,
-    members: &[MemberDeclarator],
-) -> Result<(), AllocError>
-    ensures laid { OnOk result (laid.new ≡ rules.with_members structs.now own.now specifier.now laid.old members.now) }
-    ensures faults { OnOk result (faults.new.items ≡ faults.old.items ++ rules.members_rules structs.now own.now specifier.now laid.old members.now) }
-{
-    for member in members {
-        lay(alloc, faults, structs, own, specifier, laid, member)?;
-    }
-    Ok(())
-}
-
-// One member behind those so far.
-#[tactic(auto, using(std::proofs::Common::append_assoc))]
-fn lay(
-    alloc: Global,
-    faults: &mut Vec<Fault>,
-    structs: &[Struct],
-    own: &[u8],
-    specifier: &TypeSpecifier,
-    laid: &mut Laid,
-    member: &MemberDeclarator,
-) -> Result<(), AllocError>
-    ensures laid { OnOk result (laid.new ≡ rules.with_member structs.now own.now specifier.now laid.old member.now) }
-    ensures faults { OnOk result (faults.new.items ≡ faults.old.items ++ rules.member_rules structs.now own.now specifier.now laid.old member.now) }
-{
-    let at = member_at(&member.name);
-    let known = is_known(laid.members.as_slice(), &member.name);
-    rule(faults, known, Kind::Redeclared, at)?;
-    let element = type_of(structs, Some(own), specifier, member.stars);
-    let sizes = sizes_of(alloc, member.sizes.as_slice())?;
-    let large = room(element_cells(structs, element), sizes.as_slice()).is_none();
-    rule(faults, large, Kind::ArraySize, at)?;
-    rule(
-        faults,
-        is_incomplete(structs, element),
-        Kind::IncompleteType,
-        at,
-    )?;
-    let kind = object_type(alloc, structs, element, sizes.as_slice())?;
-    place(alloc, laid, &member.name, kind, extent_of(structs, element))
-}
 
 // Whether one of the members has this name.
 fn is_known(members: &[Member], name: &MemberName) -> bool
@@ -226,4 +128,92 @@ fn grown(taken: Extent, each: Extent, cells: u32) -> Option<Extent>
         cells: cells as u32,
         size: size as u32,
     })
+}
+
+impl Judge {
+    /// The rules of a struct's definition.
+    #[tactic(auto, using(std::proofs::Common::append_assoc))]
+    pub fn note_struct(
+        &mut self,
+        structs: &[Struct],
+        name: &Name,
+        members: &[MemberDeclaration],
+    ) -> Result<(), AllocError>
+        ensures { OnOk result (Notes self.old.breaches self.new.breaches (rules.struct_rules structs.now name.now members.now)) }
+    {
+        let at = name.at;
+        let name = name.bytes.as_slice();
+        self.rule(number_of(structs, name).is_some(), Kind::Redeclared, at)?;
+        let mark = self.mark();
+        let laid = self.lay_out(Own { structs, name }, members)?;
+        let broke = self.broke(mark);
+        self.rule(!broke && laid.full, Kind::ArraySize, at)
+    }
+
+    // The members of a struct, one after the other.
+    #[tactic(auto, using(std::proofs::Common::append_assoc))]
+    fn lay_out(&mut self, own: Own<'_>, members: &[MemberDeclaration]) -> Result<Laid, AllocError>
+        ensures laid { IfOk result (λ laid. laid ≡ rules.laid_out own.entry.structs.now own.entry.name.now rules.none_laid members.now) }
+        ensures breaches { OnOk result (Notes self.old.breaches self.new.breaches (rules.parts_rules own.entry.structs.now own.entry.name.now rules.none_laid members.now)) }
+    {
+        let mut laid = Laid {
+            members: Items::new(self.alloc),
+            extent: Extent { cells: 0, size: 0 },
+            full: false,
+        };
+        for part in members {
+            note_specifier(
+                &mut self.breaches,
+                own.structs,
+                Some(own.name),
+                &part.specifier,
+            )?;
+            self.lay_members(own, &part.specifier, &mut laid, part.declarators.as_slice())?;
+        }
+        Ok(laid)
+    }
+
+    // Members of one specifier.
+    #[tactic(auto, using(std::proofs::Common::append_assoc))]
+    fn lay_members(
+        &mut self,
+        own: Own<'_>,
+        specifier: &TypeSpecifier,
+        laid: &mut Laid,
+        members: &[MemberDeclarator],
+    ) -> Result<(), AllocError>
+        ensures laid { OnOk result (laid.new ≡ rules.with_members own.entry.structs.now own.entry.name.now specifier.now laid.old members.now) }
+        ensures breaches { OnOk result (Notes self.old.breaches self.new.breaches (rules.members_rules own.entry.structs.now own.entry.name.now specifier.now laid.old members.now)) }
+    {
+        for member in members {
+            self.lay(own, specifier, laid, member)?;
+        }
+        Ok(())
+    }
+
+    // One member behind those so far.
+    #[tactic(auto, using(std::proofs::Common::append_assoc))]
+    fn lay(
+        &mut self,
+        own: Own<'_>,
+        specifier: &TypeSpecifier,
+        laid: &mut Laid,
+        member: &MemberDeclarator,
+    ) -> Result<(), AllocError>
+        ensures laid { OnOk result (laid.new ≡ rules.with_member own.entry.structs.now own.entry.name.now specifier.now laid.old member.now) }
+        ensures breaches { OnOk result (Notes self.old.breaches self.new.breaches (rules.member_rules own.entry.structs.now own.entry.name.now specifier.now laid.old member.now)) }
+    {
+        let at = member_at(&member.name);
+        let known = is_known(laid.members.as_slice(), &member.name);
+        self.rule(known, Kind::Redeclared, at)?;
+        let element = type_of(own.structs, Some(own.name), specifier, member.stars);
+        let sizes = sizes_of(self.alloc, member.sizes.as_slice())?;
+        let large = room(element_cells(own.structs, element), sizes.as_slice()).is_none();
+        self.rule(large, Kind::ArraySize, at)?;
+        let incomplete = is_incomplete(own.structs, element);
+        self.rule(incomplete, Kind::IncompleteType, at)?;
+        let kind = object_type(self.alloc, own.structs, element, sizes.as_slice())?;
+        let each = extent_of(own.structs, element);
+        place(self.alloc, laid, &member.name, kind, each)
+    }
 }

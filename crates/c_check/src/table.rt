@@ -1,6 +1,6 @@
 //! The functions that can be called.
 
-ghost use Rattle.std.specs.Prelude.{◌≡◌, ◌<◌, ◌^◌, if◌then◌else◌, [], Some, None, IfOk, OnOk};
+ghost use Rattle.std.specs.Prelude.{◌≡◌, ◌<◌, ◌^◌, if◌then◌else◌, Some, None, IfOk, OnOk};
 ghost use Rattle.std.specs.Str.{bytes_eq};
 ghost use Rattle.c_rules.specs.Scope.{Bytes};
 ghost use Rattle.c_rules.specs.Table.{called};
@@ -55,28 +55,43 @@ fn add_item(
 {
     match item {
         Item::Include { .. } | Item::Struct { .. } => Ok(()),
-        Item::Prototype(heading) => add_heading(alloc, table, structs, number, false, heading),
-        Item::Function { heading, .. } => add_heading(alloc, table, structs, number, true, heading),
+        Item::Prototype(heading) => {
+            let signature = signature_of(alloc, structs, number, false, heading)?;
+            add_heading(alloc, table, heading, signature)
+        }
+        Item::Function { heading, .. } => {
+            let signature = signature_of(alloc, structs, number, true, heading)?;
+            add_heading(alloc, table, heading, signature)
+        }
     }
+}
+
+fn signature_of(
+    alloc: Global,
+    structs: &[Struct],
+    number: usize,
+    defined: bool,
+    heading: &Heading,
+) -> Result<Signature, AllocError>
+    ensures { IfOk result (λ signature. signature ≡ functions.signature_of structs.now number defined heading.now) }
+{
+    Ok(Signature {
+        result: result_of(structs, heading),
+        parameters: types_of(alloc, structs, heading)?,
+        sound: is_sound(alloc, structs, defined, heading)?,
+        number: defined.then_some(number),
+    })
 }
 
 fn add_heading(
     alloc: Global,
     table: &mut IndexMap<Vec<u8>, Signature>,
-    structs: &[Struct],
-    number: usize,
-    defined: bool,
     heading: &Heading,
+    signature: Signature,
 ) -> Result<(), AllocError>
-    ensures { OnOk result ((name : Bytes) → called table.new.entries name ≡ functions.joined (called table.old.entries name) (functions.said_by structs.now number defined (Some heading.now) name)) }
+    ensures { OnOk result ((name : Bytes) → called table.new.entries name ≡ functions.joined (called table.old.entries name) (if bytes_eq heading.now.name.bytes name then Some signature else None)) }
 {
     let name = Vec::from_slice(alloc, heading.name.bytes.as_slice())?;
-    let signature = Signature {
-        result: result_of(structs, heading),
-        parameters: types_of(alloc, structs, heading)?,
-        sound: is_sound(alloc, structs, defined, heading)?,
-        number: defined.then_some(number),
-    };
     join(table, name, signature)
 }
 

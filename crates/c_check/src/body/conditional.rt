@@ -1,215 +1,99 @@
 //! The branches of an `if`.
 
-ghost use Rattle.std.specs.Prelude.{◌≡◌, ◌++◌, IfOk, OnOk};
-ghost use Rattle.c_rules.specs.Scope.{scope_of};
-ghost use Rattle.c_rules.specs.Table.{called};
+ghost use Rattle.std.specs.Prelude.{IfOk};
 ghost use Rattle.c_check.specs.Statement.{walked_arm, walked_arms, walked_later, walked_last, walked_branches};
+ghost use Rattle.c_check.specs.Told.{Walks, within};
 
-use super::{guarded, statement};
-use crate::expression::gather;
-use crate::form::{arm_of, if_of, more};
-use crate::single::one;
+use crate::form::{arm_of, if_of};
+use crate::judge::Answer;
+use crate::parts::{gather_inner, more, one};
+use crate::walker::{Around, Walker};
 use c_kernel::program::{Arm as TypedArm, Stmt as Typed};
-use c_kernel::{CType, Struct};
-use c_rules::fault::Fault;
-use c_rules::scope::Scope;
-use c_rules::signature::Signature;
 use c_tree::tree::{Arm, Expr, Stmt};
-use indexmap::IndexMap;
 use sqlite_items::{Boxed, Items};
-use std::alloc::{AllocError, Global};
 
-// A branch that has a test.
-#[cycle(statements)]
-fn arm(
-    alloc: Global,
-    faults: &mut Vec<Fault>,
-    functions: &IndexMap<Vec<u8>, Signature>,
-    structs: &[Struct],
-    scope: &mut Scope,
-    result_type: CType,
-    looping: bool,
-    body: &Stmt,
-    test: &Expr,
-) -> Result<Option<TypedArm<Typed>>, AllocError>
-    ensures found { IfOk result (λ found. found ≡ (walked_arm (called functions.now.entries) structs.now result_type looping test.now body.now (scope_of scope.old)).judged.found) }
-    ensures faults { OnOk result (faults.new.items ≡ faults.old.items ++ (walked_arm (called functions.now.entries) structs.now result_type looping test.now body.now (scope_of scope.old)).judged.faults) }
-    ensures scope { OnOk result (scope_of scope.new ≡ (walked_arm (called functions.now.entries) structs.now result_type looping test.now body.now (scope_of scope.old)).scope) }
-    ensures around { OnOk result ((scope_of scope.new).around ≡ (scope_of scope.old).around) }
-{
-    let parts = guarded(
-        alloc,
-        faults,
-        functions,
-        structs,
-        scope,
-        result_type,
-        looping,
-        body,
-        test,
-    )?;
-    arm_of(alloc, parts)
-}
-
-// All branches that have a test.
-#[cycle(statements)]
-#[tactic(auto, using(std::proofs::Common::append_assoc))]
-fn arms(
-    alloc: Global,
-    faults: &mut Vec<Fault>,
-    functions: &IndexMap<Vec<u8>, Signature>,
-    structs: &[Struct],
-    scope: &mut Scope,
-    result_type: CType,
-    looping: bool,
-    then: &Stmt,
-    test: &Expr,
-    rest: &[Arm<Stmt>],
-) -> Result<Option<Items<TypedArm<Typed>>>, AllocError>
-    ensures found { IfOk result (λ found. found ≡ (walked_arms (called functions.now.entries) structs.now result_type looping test.now then.now rest.now (scope_of scope.old)).judged.found) }
-    ensures faults { OnOk result (faults.new.items ≡ faults.old.items ++ (walked_arms (called functions.now.entries) structs.now result_type looping test.now then.now rest.now (scope_of scope.old)).judged.faults) }
-    ensures scope { OnOk result (scope_of scope.new ≡ (walked_arms (called functions.now.entries) structs.now result_type looping test.now then.now rest.now (scope_of scope.old)).scope) }
-    ensures around { OnOk result ((scope_of scope.new).around ≡ (scope_of scope.old).around) }
-{
-    let first = arm(
-        alloc,
-        faults,
-        functions,
-        structs,
-        scope,
-        result_type,
-        looping,
-        then,
-        test,
-    )?;
-    let later = later_arms(
-        alloc,
-        faults,
-        functions,
-        structs,
-        scope,
-        result_type,
-        looping,
-        rest,
-    )?;
-    more(alloc, first, later)
-}
-
-// The branches that are `else if`s.
-#[cycle(statements)]
-#[tactic(auto, using(std::proofs::Common::append_assoc))]
-fn later_arms(
-    alloc: Global,
-    faults: &mut Vec<Fault>,
-    functions: &IndexMap<Vec<u8>, Signature>,
-    structs: &[Struct],
-    scope: &mut Scope,
-    result_type: CType,
-    looping: bool,
-    rest: &[Arm<Stmt>],
-) -> Result<Option<Items<TypedArm<Typed>>>, AllocError>
-    ensures found { IfOk result (λ found. found ≡ (walked_later (called functions.now.entries) structs.now result_type looping rest.now (scope_of scope.old)).judged.found) }
-    ensures faults { OnOk result (faults.new.items ≡ faults.old.items ++ (walked_later (called functions.now.entries) structs.now result_type looping rest.now (scope_of scope.old)).judged.faults) }
-    ensures scope { OnOk result (scope_of scope.new ≡ (walked_later (called functions.now.entries) structs.now result_type looping rest.now (scope_of scope.old)).scope) }
-    ensures around { OnOk result ((scope_of scope.new).around ≡ (scope_of scope.old).around) }
-{
-    let mut found = Some(Items::new(alloc));
-    for x in rest {
-        let one = arm(
-            alloc,
-            faults,
-            functions,
-            structs,
-            scope,
-            result_type,
-            looping,
-            &x.then,
-            &x.test,
-        )?;
-        found = gather(found, one)?;
+impl Walker {
+    // A branch that has a test.
+    #[cycle(statements)]
+    fn arm(
+        &mut self,
+        around: Around<'_>,
+        test: &Expr,
+        body: &Stmt,
+    ) -> Answer<Boxed<TypedArm<Typed>>>
+        ensures { IfOk result (λ found. Walks self.old self.new found (within around.entry walked_arm around.entry.looping test.now body.now)) }
+    {
+        let parts = self.guarded(around, test, body)?;
+        arm_of(self.judge.alloc, parts)
     }
-    Ok(found)
-}
 
-// The `else`, if there is one.
-#[cycle(statements)]
-fn last_branch(
-    alloc: Global,
-    faults: &mut Vec<Fault>,
-    functions: &IndexMap<Vec<u8>, Signature>,
-    structs: &[Struct],
-    scope: &mut Scope,
-    result_type: CType,
-    looping: bool,
-    body: &Option<Boxed<Stmt>>,
-) -> Result<Option<Items<Typed>>, AllocError>
-    ensures found { IfOk result (λ found. found ≡ (walked_last (called functions.now.entries) structs.now result_type looping body.now (scope_of scope.old)).judged.found) }
-    ensures faults { OnOk result (faults.new.items ≡ faults.old.items ++ (walked_last (called functions.now.entries) structs.now result_type looping body.now (scope_of scope.old)).judged.faults) }
-    ensures scope { OnOk result (scope_of scope.new ≡ (walked_last (called functions.now.entries) structs.now result_type looping body.now (scope_of scope.old)).scope) }
-    ensures around { OnOk result ((scope_of scope.new).around ≡ (scope_of scope.old).around) }
-{
-    match body {
-        None => Ok(Some(Items::new(alloc))),
-        Some(body) => {
-            match statement(
-                alloc,
-                faults,
-                functions,
-                structs,
-                scope,
-                result_type,
-                looping,
-                body.get(),
-            )? {
+    // All branches that have a test.
+    #[cycle(statements)]
+    #[tactic(auto, using(std::proofs::Common::append_assoc))]
+    fn arms(
+        &mut self,
+        around: Around<'_>,
+        test: &Expr,
+        then: &Stmt,
+        rest: &[Arm<Stmt>],
+    ) -> Answer<Items<TypedArm<Typed>>>
+        ensures { IfOk result (λ found. Walks self.old self.new found (within around.entry walked_arms around.entry.looping test.now then.now rest.now)) }
+    {
+        let first = self.arm(around, test, then)?;
+        let later = self.later_arms(around, rest)?;
+        more(self.judge.alloc, first, later)
+    }
+
+    // The branches that are `else if`s.
+    #[cycle(statements)]
+    #[tactic(auto, using(std::proofs::Common::append_assoc))]
+    fn later_arms(
+        &mut self,
+        around: Around<'_>,
+        rest: &[Arm<Stmt>],
+    ) -> Answer<Items<TypedArm<Typed>>>
+        ensures { IfOk result (λ found. Walks self.old self.new found (within around.entry walked_later around.entry.looping rest.now)) }
+    {
+        let mut found = Some(Items::new(self.judge.alloc));
+        for x in rest {
+            let one = self.arm(around, &x.test, &x.then)?;
+            found = gather_inner(found, one)?;
+        }
+        Ok(found)
+    }
+
+    // The `else`, if there is one.
+    #[cycle(statements)]
+    fn last_branch(
+        &mut self,
+        around: Around<'_>,
+        body: &Option<Boxed<Stmt>>,
+    ) -> Answer<Items<Typed>>
+        ensures { IfOk result (λ found. Walks self.old self.new found (within around.entry walked_last around.entry.looping body.now)) }
+    {
+        match body {
+            None => Ok(Some(Items::new(self.judge.alloc))),
+            Some(body) => match self.statement(around, body.get())? {
                 None => Ok(None),
-                Some(body) => Ok(Some(one(alloc, body)?)),
-            }
+                Some(body) => Ok(Some(one(self.judge.alloc, body)?)),
+            },
         }
     }
-}
 
-/// An `if`.
-#[cycle(statements)]
-#[tactic(auto, using(std::proofs::Common::append_assoc))]
-pub fn branches(
-    alloc: Global,
-    faults: &mut Vec<Fault>,
-    functions: &IndexMap<Vec<u8>, Signature>,
-    structs: &[Struct],
-    scope: &mut Scope,
-    result_type: CType,
-    looping: bool,
-    then: &Boxed<Stmt>,
-    test: &Expr,
-    rest: &Items<Arm<Stmt>>,
-    last: &Option<Boxed<Stmt>>,
-) -> Result<Option<Typed>, AllocError>
-    ensures found { IfOk result (λ found. found ≡ (walked_branches (called functions.now.entries) structs.now result_type looping test.now then.now rest.now last.now (scope_of scope.old)).judged.found) }
-    ensures faults { OnOk result (faults.new.items ≡ faults.old.items ++ (walked_branches (called functions.now.entries) structs.now result_type looping test.now then.now rest.now last.now (scope_of scope.old)).judged.faults) }
-    ensures scope { OnOk result (scope_of scope.new ≡ (walked_branches (called functions.now.entries) structs.now result_type looping test.now then.now rest.now last.now (scope_of scope.old)).scope) }
-    ensures around { OnOk result ((scope_of scope.new).around ≡ (scope_of scope.old).around) }
-{
-    let found = arms(
-        alloc,
-        faults,
-        functions,
-        structs,
-        scope,
-        result_type,
-        looping,
-        then.get(),
-        test,
-        rest.as_slice(),
-    )?;
-    let last = last_branch(
-        alloc,
-        faults,
-        functions,
-        structs,
-        scope,
-        result_type,
-        looping,
-        last,
-    )?;
-    Ok(if_of(found, last))
+    /// An `if`.
+    #[cycle(statements)]
+    #[tactic(auto, using(std::proofs::Common::append_assoc))]
+    pub fn branches(
+        &mut self,
+        around: Around<'_>,
+        first: (&Expr, &Stmt),
+        rest: &Items<Arm<Stmt>>,
+        last: &Option<Boxed<Stmt>>,
+    ) -> Answer<Boxed<Typed>>
+        ensures { IfOk result (λ found. Walks self.old self.new found (within around.entry walked_branches around.entry.looping first.entry.0.now first.entry.1.now rest.now last.now)) }
+    {
+        let arms = self.arms(around, first.0, first.1, rest.as_slice())?;
+        let last = self.last_branch(around, last)?;
+        if_of(self.judge.alloc, arms, last)
+    }
 }
