@@ -1,5 +1,5 @@
 -- The source itself, with the choices of the plain job's turns, is a machine that follows the source.
-use Rattle.std.proofs.Common.{◌≡◌, ℕ, Bool, true, false, refl, sym, ap, ◌∙◌, subst}
+use Rattle.std.proofs.Common.{◌≡◌, ℕ, Bool, refl, sym, ap, ◌∙◌, subst}
 use Rattle.mpi_words.specs.declared.message.Message.{Message}
 use Rattle.mpi_words.specs.declared.operation.End.{End}
 use Rattle.c_kernel.specs.declared.program.Program.{Program}
@@ -12,6 +12,7 @@ use Rattle.runs.specs.Follow.{Here, Local_pace, Choice_pace, Matching, Follows}
 use Rattle.runs.specs.Fine.{Fine, At, Asking, Over, fine_of, machine}
 use Rattle.plain_runs.specs.Source.{act_of, refuses, source_of}
 use Rattle.plain_runs.specs.Laws.{turning, IsSourceReached}
+use Rattle.plain_runs.proofs.Picks.{pick_for, pick_back}
 use Rattle.plain_runs.proofs.Reached.{quiet_reached}
 
 abbrev Fines : Type 0
@@ -20,20 +21,12 @@ Fines = Fine State Message End
 abbrev is_same : Fines → Fines → Type 0
 is_same a b = a ≡ b
 
-abbrev pick_of : Bool → ℕ
-pick_of true = 1
-pick_of false = 0
-
-pick_back : (b : Bool) → refuses (pick_of b) ≡ b
-pick_back true = refl
-pick_back false = refl
-
-at_matching : (p : Program) (n : ℕ) (s : State) → Matching (λ x. x) (machine (turning p n)) (source_of p n) is_same (At s) (At s)
+abbrev at_matching : (p : Program) (n : ℕ) (s : State) → Matching (λ x. x) (machine (turning p n)) (source_of p n) is_same (At s) (At s)
 at_matching p n s =
     let c = one_choice p.functions is_full s in
     record {
-      state = fine_of (act_of (step p.functions (λ m cells. refuses (pick_of c.0)) s));
-      paces = Choice_pace (pick_of c.0) refl Here;
+      state = fine_of (act_of (step p.functions (λ m cells. refuses (pick_for c.0)) s));
+      paces = Choice_pace (pick_for c.0) refl Here;
       matched = ap (λ (o : Outcome). fine_of (act_of o)) c.1 ∙ ap (λ (b : Bool). fine_of (act_of (step p.functions (λ m cells. b) s))) (sym (pick_back c.0));
     }
 

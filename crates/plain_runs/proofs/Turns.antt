@@ -1,5 +1,5 @@
 -- A turn of the plain job is a turn of the rank alone, and then at most one operation.
-use Rattle.std.proofs.Common.{◌≡◌, ℕ, Bool, true, false, List, [], ◌∷◌, Option, Some, None, refl, sym, ap, ◌∙◌, subst}
+use Rattle.std.proofs.Common.{◌≡◌, ℕ, Bool, true, false, List, Option, Some, None, refl, sym, ap, ◌∙◌, subst}
 use Rattle.std.specs.Prelude.{slice_get, slice_set}
 use Rattle.std.proofs.lemmas.List.{set-set}
 use Rattle.std.proofs.lemmas.Option.{slice_get_within}
@@ -8,15 +8,15 @@ use Rattle.mpi_words.specs.declared.operation.Op.TheVariants as op
 use Rattle.mpi_words.specs.declared.operation.End.{End}
 use Rattle.mpi_queues.specs.Pairs.{Queues, Received}
 use Rattle.c_kernel.specs.declared.program.Function.{Function}
-use Rattle.mpi_effects.specs.declared.requests.Request.{Request}
 use Rattle.c_memory.specs.Memory.{is_full}
-use Rattle.c_meaning.specs.State.{Item, Body, Rest, Begun, Acting, Awaiting, Testing, Stepping, State, Outcome}
+use Rattle.c_meaning.specs.State.{State, Outcome}
 use Rattle.c_meaning.specs.State as state
-use Rattle.c_meaning.specs.Step.{goes_on, step_in, step, begins, begins_first, begins_in}
+use Rattle.c_meaning.specs.Step.{step, begins}
 use Rattle.plain_job.specs.Job.{Runs, Rank, Job, outcome, with_rank, receives, wanted, operates, after, stepped}
 use Rattle.plain_job.specs.Turn.{lowest, begins_next, Steps, turn_limit, IsTurn}
 use Rattle.plain_job.specs.Turn as job_turn
 use Rattle.plain_job.proofs.Idle.{put_same}
+use Rattle.plain_job.proofs.LastSteps.{begun_goes as no_last}
 use Rattle.runs.specs.Turn.{Act, Goes, Asks, Ends, is_last, Turned, pauses, begins_one, goes, stops}
 use Rattle.plain_runs.specs.Laws.{step_act, turn_step, comes_to, IsTurnAlone}
 use Rattle.plain_runs.proofs.Slots.{get_set}
@@ -28,37 +28,13 @@ record WentTo (o : Outcome) : Type 0 where
   next : State
   is : o ≡ state.Goes began next
 
-first_goes : (functions : List Function) (s : State) (top : state.Call) (below : List state.Call) (todo : List Item) → begins_first todo ≡ true → WentTo (goes_on functions is_full s top below todo)
-first_goes functions s top below [] h = absurd cc
-first_goes functions s top below (Body ss ∷ todo) h = record { began = _; next = _; is = refl }
-first_goes functions s top below (Rest [] ∷ todo) h = absurd cc
-first_goes functions s top below (Rest (x ∷ xs) ∷ todo) h = record { began = _; next = _; is = refl }
-first_goes functions s top below (Begun x ∷ todo) h = absurd cc
-first_goes functions s top below (Acting actions ∷ todo) h = absurd cc
-first_goes functions s top below (Awaiting t ∷ todo) h = absurd cc
-first_goes functions s top below (Testing x ∷ todo) h = absurd cc
-first_goes functions s top below (Stepping x ∷ todo) h = absurd cc
-
-newest_goes : (functions : List Function) (s : State) (calls : List state.Call) → begins_in calls ≡ true → WentTo (step_in functions is_full s calls)
-newest_goes functions s [] h = absurd cc
-newest_goes functions s (top ∷ below) h = first_goes functions s top below top.todo h
-
-asked_goes : (functions : List Function) (s : State) (asked : Option Request) → elim asked [ None ↦ begins_in s.calls | Some q ↦ false ] ≡ true → WentTo (elim asked [ None ↦ step_in functions is_full s s.calls | Some q ↦ state.Asks q.operation s ])
-asked_goes functions s None h = newest_goes functions s s.calls h
-asked_goes functions s (Some q) h = absurd cc
-
-begun_goes : (functions : List Function) (s : State) → begins s ≡ true → WentTo (step functions is_full s)
-begun_goes functions s h = asked_goes functions s s.asked h
-
 not_last : (o : Outcome) → job_turn.is_last o ≡ false → WentTo o
 not_last (state.Goes b t) h = record { began = b; next = t; is = refl }
 not_last (state.Asks q t) h = absurd cc
 not_last (state.Ends e) h = absurd cc
 
-act_goes : (o : Outcome) (t : State) → step_act o ≡ Goes t → WentTo o
-act_goes (state.Goes b u) t h = record { began = b; next = u; is = refl }
-act_goes (state.Asks q u) t h = absurd cc
-act_goes (state.Ends e) t h = absurd cc
+begun_goes : (functions : List Function) (s : State) → begins s ≡ true → WentTo (step functions is_full s)
+begun_goes functions s h = not_last (step functions is_full s) (no_last functions (Runs s) h)
 
 went_act : (o : Outcome) (w : WentTo o) → step_act o ≡ Goes w.next
 went_act o w = ap step_act w.is
