@@ -20,9 +20,9 @@ returns-in-len1-clause-none c none =
 pub returns-in-len2-clause-some : goal.returns-in-len2-clause-some
 returns-in-len2-clause-some c =
     let two = pair_is c.args.words.now c.word-item-then-words-lt3.result c.count-item.result c.in-len2.len_at_least c.in-len2.len_below c.word-item-then-words-lt3.is c.count-item.is in
-    plain_is (map string_bytes c.args.words.now) (string_bytes c.word-item-then-words-lt3.result) (string_bytes c.count-item.result) c.plain.result (ap (map string_bytes) two) (sym c.as_str-then-words-lt3.ensures.value ∙ (bytes_eq-Decides c.as_str-then-words-lt3.result.now (codes "plain")).0 (sym c.eq-then-words-lt3.ensures ∙ c.if-eq-2.true)) (c.plain.ensures ∙ ap (λ w. option_map Plain (count_of w)) c.as_bytes.ensures.value)
+    plain_is (map string_bytes c.args.words.now) (string_bytes c.word-item-then-words-lt3.result) (string_bytes c.count-item.result) c.plain.result (ap (map string_bytes) two) (sym c.as_str.ensures.value ∙ (bytes_eq-Decides c.as_str.result.now (codes "plain")).0 (sym c.eq.ensures ∙ c.if-eq.true)) (c.plain.ensures ∙ ap (λ w. option_map Plain (count_of w)) c.as_bytes-in-len2.ensures.value)
 
 pub returns-in-len2-clause-none : goal.returns-in-len2-clause-none
 returns-in-len2-clause-none c =
     let two = pair_is c.args.words.now c.word-item-then-words-lt3.result c.count-item.result c.in-len2.len_at_least c.in-len2.len_below c.word-item-then-words-lt3.is c.count-item.is in
-    no_plain (map string_bytes c.args.words.now) (string_bytes c.word-item-then-words-lt3.result) (string_bytes c.count-item.result) c.plain.result (ap (map string_bytes) two) (c.plain.ensures ∙ ap (λ w. option_map Plain (count_of w)) c.as_bytes.ensures.value)
+    no_plain (map string_bytes c.args.words.now) (string_bytes c.word-item-then-words-lt3.result) (string_bytes c.count-item.result) c.plain.result (ap (map string_bytes) two) (c.plain.ensures ∙ ap (λ w. option_map Plain (count_of w)) c.as_bytes-in-len2.ensures.value)
