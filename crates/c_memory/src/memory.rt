@@ -147,6 +147,20 @@ impl Memory {
         self.grant(n as u32)
     }
 
+    /// A pointer to a new object of so many cells, or NULL, where the caller refuses it and the cells that were ever asked for, with these, are more than 65,536.
+    pub fn allocate(&mut self, n: u128, refuses: bool) -> Result<Cell, AllocError>
+        requires next { self.old.next + 1 < 2 ^ 64 }
+        requires room { refuses ≡ false → is_full self.old n ≡ false }
+        ensures { IfOk result (λ given. (self.new, given) ≡ allocated (λ m k. refuses) self.old n) }
+    {
+        let asked = asked_with(self.asked, n);
+        if refuses && asked > 65_536 {
+            self.asked = asked;
+            return Ok(NULL);
+        }
+        self.grant(n as u32)
+    }
+
     // Whether objects of malloc have no room for so many cells more.
     fn is_full(&self, n: u128) -> bool
         ensures { result ≡ is_full self.now n }

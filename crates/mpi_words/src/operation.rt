@@ -56,3 +56,13 @@ pub enum Reply {
     /// A message from a rank.
     Got { source: u16, message: Message },
 }
+
+/// What a rank's turn comes to before its answer.
+#[derive(Drop)]
+pub enum Want {
+    /// So many statements began as the turn may begin, and the next step begins another.
+    Paused,
+    /// An operation, which waits for its reply.
+    Wants(Op),
+    Ended(End),
+}
