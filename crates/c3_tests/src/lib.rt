@@ -18,6 +18,8 @@ mod passed;
 #[cfg(test)]
 mod pointers;
 #[cfg(test)]
+mod printed;
+#[cfg(test)]
 mod queues;
 #[cfg(test)]
 mod rows;
