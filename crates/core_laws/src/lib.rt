@@ -1,0 +1,2 @@
+//! Laws of the checkpoint protocol.
+#![tactic(auto)]
