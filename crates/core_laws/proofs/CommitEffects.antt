@@ -4,7 +4,7 @@ use Rattle.std.specs.Prelude.{◌&&◌, nat_lt, if◌then◌else◌}
 use Rattle.std.proofs.lemmas.Bool.{cond_both, cases_eq}
 use Rattle.std.proofs.lemmas.List.{append_assoc}
 use Rattle.mpi_words.specs.declared.control.Control.{Control}
-use Rattle.mpi_words.specs.declared.control.Control.TheVariants.{Request, Count, Ready, Stop, Stopped, Restored as Restored_now}
+use Rattle.mpi_words.specs.declared.control.Control.TheVariants.{Request, Count, Ready, Stop, Stopped, Restored}
 use Rattle.core_laws.specs.Rows.{set_at}
 use Rattle.core_laws.specs.Protocol.{Protocol, move_told, move_pop, move_stop, move_note_ready, move_note_stopped, move_tell_stop, move_commit}
 use Rattle.core_laws.specs.Process.{Ranks}
@@ -35,7 +35,7 @@ handled_commits {S} n c s r (Stopped l ∷ rest) h = go (all_below n (set_at c.p
     go : (b : Bool) → (if b then move_commit (move_note_stopped c.protocol s r rest) else move_note_stopped c.protocol s r rest).wave.line ≡ suc c.protocol.wave.line → Has {A = Effect S} (if b then Commits (suc c.protocol.wave.line) ∷ [] else []) (Commits (suc c.protocol.wave.line))
     go true e = record { before = []; after = []; split = refl }
     go false e = absurd (omega (arith, e))
-handled_commits n c s r (Restored_now ∷ rest) h = absurd (omega (arith, h))
+handled_commits n c s r (Restored ∷ rest) h = absurd (omega (arith, h))
 
 step_commits : {S : Type 0} (P : Ranks S) (n : ℕ) (c : Core S) (e : Event) → (step_of P n c e).protocol.wave.line ≡ suc c.protocol.wave.line → Has (step_effects_of P n c e) (Commits (suc c.protocol.wave.line))
 step_commits {S} P n c (Turn r) h = absurd (omega (

@@ -3,7 +3,7 @@ use Rattle.std.proofs.Common.{◌≡◌, ℕ, suc, ◌<◌, ◌≤◌, Bool, tru
 use Rattle.std.specs.Prelude.{◌&&◌, ◌==◌}
 use Rattle.std.proofs.lemmas.Bool.{cond_both, cond-false, cases_Bool, and_parts, eqb-true}
 use Rattle.mpi_words.specs.declared.control.Control.{Control}
-use Rattle.mpi_words.specs.declared.control.Control.TheVariants.{Request, Count, Ready, Stop, Stopped, Restored as Restored_now}
+use Rattle.mpi_words.specs.declared.control.Control.TheVariants.{Request, Count, Ready, Stop, Stopped, Restored}
 use Rattle.core_laws.specs.Protocol.{Protocol, move_stop, move_pop, move_told, move_note_ready, move_note_stopped, move_tell_stop, move_commit}
 use Rattle.core_laws.specs.Written.{Written}
 use Rattle.core_laws.specs.Process.{Process, Rank}
@@ -37,7 +37,7 @@ committed_handle P n rank p v s r (Request l ∷ rest) a is i h e = never p.wave
 committed_handle P n rank p v s r (Count l k ∷ rest) a is i h e = never p.wave.line (subst (λ w. p.wave.line < w.line) (ready_wave n (move_told p s r k rest) r) e)
 committed_handle P n rank p v s r (Ready l ∷ rest) a is i h e = never p.wave.line (subst (λ y. p.wave.line < y) (cond_both (all_below n (move_note_ready p s r rest).wave.ready) (move_tell_stop (move_note_ready p s r rest)) (move_note_ready p s r rest) (λ z. z.wave.line ≡ p.wave.line) (λ d. refl) (λ d. refl)) e)
 committed_handle P n rank p v s r (Stop l ∷ rest) a is i h e = never p.wave.line (subst (λ y. p.wave.line < y) (cond_both (p.layer r).logging (move_stop (move_pop p s r rest) r) (move_pop p s r rest) (λ z. z.wave.line ≡ p.wave.line) (λ d. refl) (λ d. refl)) e)
-committed_handle P n rank p v s r (Restored_now ∷ rest) a is i h e = never p.wave.line e
+committed_handle P n rank p v s r (Restored ∷ rest) a is i h e = never p.wave.line e
 committed_handle {S} P n rank p v s r (Stopped l ∷ rest) a is i h e = ⊎_elim yes no (cases_Bool (all_below n (move_note_stopped p s r rest).wave.stopped))
   where
     noted : Protocol
@@ -68,7 +68,7 @@ committed_saved n p s r (Request l ∷ rest) is i e = never p.wave.line e
 committed_saved n p s r (Count l k ∷ rest) is i e = never p.wave.line (subst (λ w. p.wave.line < w.line) (ready_wave n (move_told p s r k rest) r) e)
 committed_saved n p s r (Ready l ∷ rest) is i e = never p.wave.line (subst (λ y. p.wave.line < y) (cond_both (all_below n (move_note_ready p s r rest).wave.ready) (move_tell_stop (move_note_ready p s r rest)) (move_note_ready p s r rest) (λ z. z.wave.line ≡ p.wave.line) (λ d. refl) (λ d. refl)) e)
 committed_saved n p s r (Stop l ∷ rest) is i e = never p.wave.line (subst (λ y. p.wave.line < y) (cond_both (p.layer r).logging (move_stop (move_pop p s r rest) r) (move_pop p s r rest) (λ z. z.wave.line ≡ p.wave.line) (λ d. refl) (λ d. refl)) e)
-committed_saved n p s r (Restored_now ∷ rest) is i e = never p.wave.line e
+committed_saved n p s r (Restored ∷ rest) is i e = never p.wave.line e
 committed_saved n p s r (Stopped l ∷ rest) is i e = ⊎_elim yes no (cases_Bool (all_below n noted.wave.stopped))
   where
     noted : Protocol

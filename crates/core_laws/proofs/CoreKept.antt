@@ -14,7 +14,7 @@ use Rattle.core_laws.specs.Handling.{all_below, handles, then_ready, then_stop, 
 use Rattle.core_laws.specs.Invariant.{Kept, Invariant, bit, In, in_of, arrived, total}
 use Rattle.core_laws.specs.Stopping.{contents}
 use Rattle.core_laws.specs.Line.{Cut, new_in, old_in, PairFits, Journal}
-use Rattle.core_laws.specs.Replay.{Restored, absorb, Back, may_turn, back_next, IsLag}
+use Rattle.core_laws.specs.Replay.{Replaying, absorb, Back, may_turn, back_next, IsLag}
 use Rattle.core_laws.specs.Replay as back
 use Rattle.core_laws.specs.Plan.{IsDone, HasPlan}
 use Rattle.core_laws.specs.Core.{Core, is_back, restores, rank_of, then_restored, one_turned, core_turned, accepts, landed, core_arrived, core_delivers, core_handled, may_begin, core_began, step, steps, back_of, last_line}
@@ -104,7 +104,7 @@ calm_restored n was now p r = cond_both (not was && now) (move_tell_restored p r
 inv_restored : (n : ℕ) (was now : Bool) (p : Protocol) (r : ℕ) → Invariant n p → Invariant n (then_restored was now p r)
 inv_restored n was now p r h = cond_both (not was && now) (move_tell_restored p r) p (Invariant n) (λ e. inv_tell_restored n p r h) (λ e. h)
 
-pub ranks_set : {S : Type 0} (one : ℕ → Restored S) (r : ℕ) (v : Restored S) → rank_of (set_at one r v) ≡ set_at (rank_of one) r v.rank
+pub ranks_set : {S : Type 0} (one : ℕ → Replaying S) (r : ℕ) (v : Replaying S) → rank_of (set_at one r v) ≡ set_at (rank_of one) r v.rank
 ranks_set one r v = set_at-map (λ o. o.rank) one r v
 
 pub turn_kept : {S : Type 0} (P : Process S) (n : ℕ) (c : Core S) (r : ℕ) → r < n → may_turn (c.one r).log (c.one r).left ≡ true → IsKept P n c → IsKept P n (core_turned n c r (turn P (c.one r).rank))
@@ -122,7 +122,7 @@ turn_kept {S} P n c r a may h = record {
     d : Did
     d = (turn P (c.one r).rank).did
 
-    v : Restored S
+    v : Replaying S
     v = one_turned (c.one r) (turn P (c.one r).rank)
 
     q : Protocol
@@ -147,7 +147,7 @@ arrival_kept {S} P n c s r x rest a b ok is h = record {
   saved = h.saved;
 }
   where
-    v : Restored S
+    v : Replaying S
     v = landed (c.one r) (c.one r).log s x.0
 
     moved : Protocol

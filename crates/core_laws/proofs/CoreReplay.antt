@@ -5,7 +5,7 @@ use Rattle.std.proofs.lemmas.Bool.{cond_both, cond-true, and_from, lt-ltb, false
 use Rattle.late_logs.specs.declared.entry.Entry.{Entry}
 use Rattle.late_logs.specs.declared.entry.Entry.TheVariants.{Late as Late_entry, Intra as Intra_entry}
 use Rattle.mpi_words.specs.declared.control.Control.{Control}
-use Rattle.mpi_words.specs.declared.control.Control.TheVariants.{Request, Count, Ready, Stop, Stopped, Restored as Restored_now}
+use Rattle.mpi_words.specs.declared.control.Control.TheVariants.{Request, Count, Ready, Stop, Stopped, Restored}
 use Rattle.mpi_words.specs.declared.message.Message.{Message}
 use Rattle.core_laws.specs.Rows.{set_at, set_pair}
 use Rattle.core_laws.specs.Protocol.{Packet, Layer, Protocol, Class, Late, Intra, Early, layer_arrive, class_of, layer_save, layer_send, move_send, move_skip, move_save, move_arrive, move_ready, move_stop, move_pop, move_asked, move_told, move_note_ready, move_note_stopped, move_tell_stop, move_commit, move_tell_restored}
@@ -13,7 +13,7 @@ use Rattle.core_laws.specs.Process.{Process, Did, Nothing, Sent, Local, Marked, 
 use Rattle.core_laws.specs.Quiet.{Deliver}
 use Rattle.core_laws.specs.Handling.{handles, then_ready, then_stop, ready_due, stops_at, all_below, protocol_after}
 use Rattle.core_laws.specs.Stopping.{contents}
-use Rattle.core_laws.specs.Replay.{Restored, absorb, Back, back_channel, back_skip, back_turn, back_arrives, back_deliver, back_next}
+use Rattle.core_laws.specs.Replay.{Replaying, absorb, Back, back_channel, back_skip, back_turn, back_arrives, back_deliver, back_next}
 use Rattle.core_laws.specs.Core.{Core, is_back, then_restored, one_turned, core_turned, accepts, landed, core_arrived, core_handled, back_of}
 use Rattle.core_laws.proofs.QuietRuns.{contents-push, set_at-map, set_pair-map, contents_of, then_stop-channel, ready_channel}
 use Rattle.core_laws.proofs.PlanKept.{set_same, back_path}
@@ -85,14 +85,14 @@ along_turn {S} P n c r = back_path (set_at c.one r v) (set_at c.one r v) (conten
     d : Did
     d = (turn P (c.one r).rank).did
 
-    v : Restored S
+    v : Replaying S
     v = one_turned (c.one r) (turn P (c.one r).rank)
 
     p' : Protocol
     p' = then_restored (is_back (c.one r)) (is_back v) (protocol_after n c.protocol r d) r
 
 -- A delivery.
-pub along_arrival : {S : Type 0} (n : ℕ) (c : Core S) (s r : ℕ) (v : Restored S) (x : Packet) (rest : List Packet) → back_of (core_arrived n c s r v x rest) ≡ back_arrives (back_of c) s r v x.0 (contents rest)
+pub along_arrival : {S : Type 0} (n : ℕ) (c : Core S) (s r : ℕ) (v : Replaying S) (x : Packet) (rest : List Packet) → back_of (core_arrived n c s r v x rest) ≡ back_arrives (back_of c) s r v x.0 (contents rest)
 along_arrival {S} n c s r v x rest = back_path (set_at c.one r v) (set_at c.one r v) (contents_of (then_restored (is_back (c.one r)) (is_back v) ready r).channel) (set_pair (contents_of c.protocol.channel) s r (contents rest)) (skips_of (then_restored (is_back (c.one r)) (is_back v) ready r)) (skips_of c.protocol) refl
     (ap contents_of (restored_channel (is_back (c.one r)) (is_back v) ready r ∙ ready_channel n moved r ∙ ap (λ q. set_pair q s r rest) (then_stop-channel c.protocol r x)) ∙ set_pair-map contents c.protocol.channel s r rest)
     (restored_skips (is_back (c.one r)) (is_back v) ready r ∙ skips_ready n moved r ∙ skips_layer q moved r (layer_arrive (q.layer r) s (class_of (q.layer r).epoch x.1.epoch)) refl (arrive_skips (q.layer r) s (class_of (q.layer r).epoch x.1.epoch)) ∙ skips_stop c.protocol r x)
@@ -125,7 +125,7 @@ handles_channel n p s r (Count l k ∷ rest) = ready_channel n (move_told p s r 
 handles_channel n p s r (Ready l ∷ rest) = cond_both (all_below n (move_note_ready p s r rest).wave.ready) (move_tell_stop (move_note_ready p s r rest)) (move_note_ready p s r rest) (λ z. z.channel ≡ p.channel) (λ e. refl) (λ e. refl)
 handles_channel n p s r (Stop l ∷ rest) = cond_both (p.layer r).logging (move_stop (move_pop p s r rest) r) (move_pop p s r rest) (λ z. z.channel ≡ p.channel) (λ e. refl) (λ e. refl)
 handles_channel n p s r (Stopped l ∷ rest) = cond_both (all_below n (move_note_stopped p s r rest).wave.stopped) (move_commit (move_note_stopped p s r rest)) (move_note_stopped p s r rest) (λ z. z.channel ≡ p.channel) (λ e. refl) (λ e. refl)
-handles_channel n p s r (Restored_now ∷ rest) = refl
+handles_channel n p s r (Restored ∷ rest) = refl
 
 handles_skips : (n : ℕ) (p : Protocol) (s r : ℕ) (c : List Control) → skips_of (handles n p s r c) ≡ skips_of p
 handles_skips n p s r [] = refl
@@ -135,7 +135,7 @@ handles_skips n p s r (Ready l ∷ rest) = cond_both (all_below n (move_note_rea
 handles_skips n p s r (Stop l ∷ rest) = cond_both (p.layer r).logging (move_stop (move_pop p s r rest) r) (move_pop p s r rest) (λ z. skips_of z ≡ skips_of p)
     (λ e. skips_layer (move_pop p s r rest) (move_stop (move_pop p s r rest) r) r (record (p.layer r) { logging = false }) refl refl) (λ e. refl)
 handles_skips n p s r (Stopped l ∷ rest) = cond_both (all_below n (move_note_stopped p s r rest).wave.stopped) (move_commit (move_note_stopped p s r rest)) (move_note_stopped p s r rest) (λ z. skips_of z ≡ skips_of p) (λ e. refl) (λ e. refl)
-handles_skips n p s r (Restored_now ∷ rest) = refl
+handles_skips n p s r (Restored ∷ rest) = refl
 
 pub along_handle : {S : Type 0} (n : ℕ) (c : Core S) (s r : ℕ) (l : List Control) → back_of (core_handled c (handles n c.protocol s r l)) ≡ back_of c
 along_handle n c s r l = back_path c.one c.one (contents_of (handles n c.protocol s r l).channel) (contents_of c.protocol.channel) (skips_of (handles n c.protocol s r l)) (skips_of c.protocol) refl (ap contents_of (handles_channel n c.protocol s r l)) (handles_skips n c.protocol s r l)

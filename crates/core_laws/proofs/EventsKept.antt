@@ -4,7 +4,7 @@ use Rattle.std.specs.Prelude.{◌&&◌, ◌==◌, nat_lt, if◌then◌else◌}
 use Rattle.std.specs.List.{AllByRecursion}
 use Rattle.std.proofs.lemmas.Bool.{cond_both, le-ltb, eq-eqb, ne_eqb, and_right, and_left, and_parts, not-true, ltb-true, eqb-true, cases_lt, false≢true}
 use Rattle.mpi_words.specs.declared.control.Control.{Control}
-use Rattle.mpi_words.specs.declared.control.Control.TheVariants.{Request, Count, Ready, Stop, Stopped, Restored as Restored_now}
+use Rattle.mpi_words.specs.declared.control.Control.TheVariants.{Request, Count, Ready, Stop, Stopped, Restored}
 use Rattle.core_laws.specs.Rows.{set_at, set_pair}
 use Rattle.core_laws.specs.Protocol.{Packet, Protocol, move_save, move_arrive, move_ready, move_stop, move_pop, move_asked, move_told, move_note_ready, move_note_stopped, move_tell_stop, move_commit, move_start, restarted, told_restored, move_skip, move_send, move_tell_restored, move_note_restored}
 use Rattle.core_laws.specs.Process.{Did, Nothing, Sent, Local, Marked}
@@ -51,7 +51,7 @@ pub inv_skip : (n : ℕ) (p : Protocol) (s r : ℕ) → 0 < (p.layer s).skip r �
 inv_skip n p s r more h = record { kept = kept_skip n p s r more h.kept; origins = h.origins }
 
 pub inv_tell_restored : (n : ℕ) (p : Protocol) (r : ℕ) → Invariant n p → Invariant n (move_tell_restored p r)
-inv_tell_restored n p r h = inv_push_pair n p (move_tell_restored p r) r 0 Restored_now refl refl (kept_tell_restored n p r h.kept) h
+inv_tell_restored n p r h = inv_push_pair n p (move_tell_restored p r) r 0 Restored refl refl (kept_tell_restored n p r h.kept) h
 
 pub inv_after : (n : ℕ) (p : Protocol) (r : ℕ) (d : Did) → r < n → Invariant n p → Invariant n (protocol_after n p r d)
 inv_after n p r Nothing b h = h
@@ -121,7 +121,7 @@ inv_handles n p s r (Stopped l ∷ rest) a b is h =
     cond_both (all_below n (move_note_stopped p s r rest).wave.stopped) (move_commit (move_note_stopped p s r rest)) (move_note_stopped p s r rest) (Invariant n)
     (λ e. record { kept = kept_commit n (move_note_stopped p s r rest) (all_below-at n (move_note_stopped p s r rest).wave.stopped e) noted.kept; origins = noted.origins })
     (λ e. noted)
-inv_handles n p s r (Restored_now ∷ rest) a b is h = inv_pop n p (move_note_restored p s r rest) s r Restored_now rest is refl (kept_note_restored n p s r rest is h.kept) h
+inv_handles n p s r (Restored ∷ rest) a b is h = inv_pop n p (move_note_restored p s r rest) s r Restored rest is refl (kept_note_restored n p s r rest is h.kept) h
 
 pub inv_start : (n : ℕ) (p : Protocol) → p.wave.under_way ≡ false → ((s r : ℕ) → s < n → r < n → (p.layer s).skip r ≡ 0) → Invariant n p → Invariant n (move_start p)
 inv_start n p none left h = inv_push_row n p (move_start p) 0 (λ x. Request (suc p.wave.line)) refl (λ y. refl) (kept_start n p none left h.kept) h
@@ -134,7 +134,7 @@ above_line : (L : ℕ) (got : ℕ) → arrived (record { epoch = L; was_ready = 
 above_line L got = rw (le-ltb (suc L) L (omega arith), ne_eqb (suc L) L (λ d. omega arith)) refl
 
 -- who tells at once that it has nothing to restore: such a control is none of those that are counted
-told_zero : (f : List Control → ℕ) → f [] ≡ 0 → f (Restored_now ∷ []) ≡ 0 → (b c : Bool) → f (if b then told_restored c else []) ≡ 0
+told_zero : (f : List Control → ℕ) → f [] ≡ 0 → f (Restored ∷ []) ≡ 0 → (b c : Bool) → f (if b then told_restored c else []) ≡ 0
 told_zero f e d true true = e
 told_zero f e d true false = d
 told_zero f e d false c = e

@@ -10,7 +10,7 @@ use Rattle.core_laws.specs.Rows.{set_at, set_pair}
 use Rattle.core_laws.specs.Process.{Process, Rank, Did, Nothing, Sent, Local, Marked, Turned, turn, arrive, is_operation}
 use Rattle.core_laws.specs.Quiet.{Quiet, Event, Turn, Deliver, Handle, Begin_wave, sends, quiet_next, quiet_arrives, IsReached}
 use Rattle.core_laws.specs.Line.{Logged, Sending, Made, made, one_more, sendings, filled, sends_to, intra_from, Journal, replayed, Stands, PairFits}
-use Rattle.core_laws.specs.Replay.{entry, entries, Restored, absorb, Back, may_turn, back_channel, back_skip, back_turn, back_arrives, back_deliver, back_next, back_run, restart, PairLags, journal_of, Lags, IsLag}
+use Rattle.core_laws.specs.Replay.{entry, entries, Replaying, absorb, Back, may_turn, back_channel, back_skip, back_turn, back_arrives, back_deliver, back_next, back_run, restart, PairLags, journal_of, Lags, IsLag}
 use Rattle.core_laws.proofs.Changes
 use Rattle.core_laws.proofs.Changes.{each_set, at_set, at_set_both, at_set_pair, at_set_pair_both, row_frame, column_frame, set_pair-row, set_pair-column, set_pair-other_row, set_pair-other_column}
 use Rattle.core_laws.proofs.Operations.{turn_more, turn_none}
@@ -42,28 +42,28 @@ filled_turn P k (a ∷ l) e = let m = turn_more P k a.source a.message e in
     filled_turn P (arrive k a.source a.message) l (ap (λ t. is_operation t.did) m ∙ e) ∙ ap (λ t. record { rank = filled t.rank l; did = t.did }) m
 
 -- A restoring rank's operation: what it makes after it is what it was to make.
-abbrev one_done : {S : Type 0} → Process S → Restored S → Restored S
+abbrev one_done : {S : Type 0} → Process S → Replaying S → Replaying S
 one_done P v = record v { rank = (turn P v.rank).rank; left = if is_operation (turn P v.rank).did then pred v.left else v.left }
 
-replay_front : {S : Type 0} (P : Process S) (v : Restored S) (since : List Logged) (j : ℕ) → v.left ≡ suc j → is_operation (turn P v.rank).did ≡ true
+replay_front : {S : Type 0} (P : Process S) (v : Replaying S) (since : List Logged) (j : ℕ) → v.left ≡ suc j → is_operation (turn P v.rank).did ≡ true
     → replayed P (journal_of v since) ≡ after_one (turn P v.rank) (made P j (filled (turn P v.rank).rank since))
 replay_front P v since j left op = ap (λ i. made P i (filled v.rank since)) left ∙ made_front P j (filled v.rank since) ∙ ap (λ t. record { rank = (made P j t.rank).rank; sends = sendings t.did ++ (made P j t.rank).sends; all_made = is_operation t.did && (made P j t.rank).all_made }) (filled_turn P v.rank since op)
 
-done_left : {S : Type 0} (P : Process S) (v : Restored S) (j : ℕ) → v.left ≡ suc j → is_operation (turn P v.rank).did ≡ true → (one_done P v).left ≡ j
+done_left : {S : Type 0} (P : Process S) (v : Replaying S) (j : ℕ) → v.left ≡ suc j → is_operation (turn P v.rank).did ≡ true → (one_done P v).left ≡ j
 done_left P v j left op = cond-true (is_operation (turn P v.rank).did) (pred v.left) v.left op ∙ omega arith
 
-stands_done : {S : Type 0} (P : Process S) (v : Restored S) (since : List Logged) (k : Rank S) (j : ℕ) → v.left ≡ suc j → is_operation (turn P v.rank).did ≡ true → Stands P (journal_of v since) k → Stands P (journal_of (one_done P v) since) k
+stands_done : {S : Type 0} (P : Process S) (v : Replaying S) (since : List Logged) (k : Rank S) (j : ℕ) → v.left ≡ suc j → is_operation (turn P v.rank).did ≡ true → Stands P (journal_of v since) k → Stands P (journal_of (one_done P v) since) k
 stands_done P v since k j left op h = let e = replay_front P v since j left op in let d = ap (λ i. made P i (filled (turn P v.rank).rank since)) (done_left P v j left op) in record {
   all_made = ap (λ m. m.all_made) d ∙ (and_parts (is_operation (turn P v.rank).did) (made P j (filled (turn P v.rank).rank since)).all_made (sym (ap (λ m. m.all_made) e) ∙ h.all_made)).1;
   rank = ap (λ m. m.rank) d ∙ sym (ap (λ m. m.rank) e) ∙ h.rank;
 }
 
-sends_done : {S : Type 0} (P : Process S) (v : Restored S) (since : List Logged) (j : ℕ) → v.left ≡ suc j → is_operation (turn P v.rank).did ≡ true
+sends_done : {S : Type 0} (P : Process S) (v : Replaying S) (since : List Logged) (j : ℕ) → v.left ≡ suc j → is_operation (turn P v.rank).did ≡ true
     → (replayed P (journal_of v since)).sends ≡ sendings (turn P v.rank).did ++ (replayed P (journal_of (one_done P v) since)).sends
 sends_done P v since j left op = ap (λ m. m.sends) (replay_front P v since j left op) ∙ ap (λ i. sendings (turn P v.rank).did ++ (made P i (filled (turn P v.rank).rank since)).sends) (sym (done_left P v j left op))
 
 -- A turn without an operation changes nothing.
-one_done_none : {S : Type 0} (P : Process S) (v : Restored S) → is_operation (turn P v.rank).did ≡ false → one_done P v ≡ v
+one_done_none : {S : Type 0} (P : Process S) (v : Replaying S) → is_operation (turn P v.rank).did ≡ false → one_done P v ≡ v
 one_done_none P v e = ap (λ k. record { rank = k; log = v.log; left = if is_operation (turn P v.rank).did then pred v.left else v.left }) (turn_none P v.rank e) ∙ ap (λ i. record { rank = v.rank; log = v.log; left = i }) (cond-false (is_operation (turn P v.rank).did) (pred v.left) v.left e)
 
 -- A send: it is left out, or it goes on the channel.
@@ -175,16 +175,16 @@ lag_restoring {S} P n b v since r j inside left op h = record {
     did = (turn P (b.one r).rank).did
 
 -- a restored rank's journal
-pub replay_none : {S : Type 0} (P : Process S) (v : Restored S) (since : List Logged) → v.left ≡ 0 → since ≡ [] → replayed P (journal_of v since) ≡ record { rank = v.rank; sends = []; all_made = true }
+pub replay_none : {S : Type 0} (P : Process S) (v : Replaying S) (since : List Logged) → v.left ≡ 0 → since ≡ [] → replayed P (journal_of v since) ≡ record { rank = v.rank; sends = []; all_made = true }
 replay_none P v since left none = ap (λ i. made P i (filled v.rank since)) left ∙ ap (λ l. made P 0 (filled v.rank l)) none
 
-pub stands_none : {S : Type 0} (P : Process S) (v : Restored S) (since : List Logged) (k : Rank S) → v.left ≡ 0 → since ≡ [] → v.rank ≡ k → Stands P (journal_of v since) k
+pub stands_none : {S : Type 0} (P : Process S) (v : Replaying S) (since : List Logged) (k : Rank S) → v.left ≡ 0 → since ≡ [] → v.rank ≡ k → Stands P (journal_of v since) k
 stands_none P v since k left none is = let e = replay_none P v since left none in record { all_made = ap (λ m. m.all_made) e; rank = ap (λ m. m.rank) e ∙ is }
 
-pub is_none : {S : Type 0} (P : Process S) (v : Restored S) (since : List Logged) (k : Rank S) → v.left ≡ 0 → since ≡ [] → Stands P (journal_of v since) k → v.rank ≡ k
+pub is_none : {S : Type 0} (P : Process S) (v : Replaying S) (since : List Logged) (k : Rank S) → v.left ≡ 0 → since ≡ [] → Stands P (journal_of v since) k → v.rank ≡ k
 is_none P v since k left none h = sym (ap (λ m. m.rank) (replay_none P v since left none)) ∙ h.rank
 
-done_none : {S : Type 0} (P : Process S) (v : Restored S) → v.left ≡ 0 → (one_done P v).left ≡ 0
+done_none : {S : Type 0} (P : Process S) (v : Replaying S) → v.left ≡ 0 → (one_done P v).left ≡ 0
 done_none P v left = cond_both (is_operation (turn P v.rank).did) (pred v.left) v.left (λ i. i ≡ 0) (λ e. ap pred left) (λ e. left)
 
 pub lag_restored : {S : Type 0} (P : Process S) (n : ℕ) (b : Back S) (v : Quiet S) (since : ℕ → List Logged) (r : ℕ) → r < n → (b.one r).left ≡ 0 → since r ≡ [] → Lags P n b v since
@@ -225,7 +225,7 @@ lag_idle {S} P n b v since r idle h = record {
     did : Did
     did = (turn P (b.one r).rank).did
 
-    same : (Q : ℕ → Restored S → Type 0) (x : ℕ) → Q x (b.one x) → Q x (set_at b.one r (one_done P (b.one r)) x)
+    same : (Q : ℕ → Replaying S → Type 0) (x : ℕ) → Q x (b.one x) → Q x (set_at b.one r (one_done P (b.one r)) x)
     same Q x o = at_set (Q x) b.one r (one_done P (b.one r)) x (λ e. subst (Q x) (ap b.one e ∙ sym (one_done_none P (b.one r) idle)) o) (λ _. o)
 
 -- Leading late entries.
@@ -233,7 +233,7 @@ pub after_late : List Logged → List Logged
 after_late [] = []
 after_late (a ∷ l) = if a.late then after_late l else a ∷ l
 
-record Absorbed {S : Type 0} (P : Process S) (ops : ℕ) (k : Rank S) (since : List Logged) (v : Restored S) (rest : List Logged) : Type 0 where
+record Absorbed {S : Type 0} (P : Process S) (ops : ℕ) (k : Rank S) (since : List Logged) (v : Replaying S) (rest : List Logged) : Type 0 where
   log : v.log ≡ entries rest
   left : v.left ≡ ops
   full : filled v.rank rest ≡ filled k since
@@ -250,7 +250,7 @@ unfolding after_late
 absorbs P ops k [] = record { log = refl; left = refl; full = refl; intra = λ s. refl }
 absorbs P ops k (a ∷ l) = absorb_step P ops k a l a.late refl (absorbs P ops (arrive k a.source a.message) l)
 
-absorbed_replay : {S : Type 0} (P : Process S) (ops : ℕ) (k : Rank S) (since : List Logged) (v : Restored S) (rest : List Logged) → Absorbed P ops k since v rest → replayed P (journal_of v rest) ≡ made P ops (filled k since)
+absorbed_replay : {S : Type 0} (P : Process S) (ops : ℕ) (k : Rank S) (since : List Logged) (v : Replaying S) (rest : List Logged) → Absorbed P ops k since v rest → replayed P (journal_of v rest) ≡ made P ops (filled k since)
 absorbed_replay P ops k since v rest h = ap (λ i. made P i (filled v.rank rest)) h.left ∙ ap (made P ops) h.full
 
 -- The restart lags behind what the line stands for.
@@ -286,7 +286,7 @@ lag_deliver {S} P n b v since s r m rest a l is inside has names intra from h = 
       (λ e. column x y d f);
 }
   where
-    one : Restored S
+    one : Replaying S
     one = absorb (b.one r).left (arrive (b.one r).rank s m) (entries l)
 
     abs : Absorbed P (b.one r).left (arrive (b.one r).rank s m) l one (after_late l)
@@ -339,7 +339,7 @@ lag_both {S} P n b v since s r m rest is inside has none left h = (
   },
 )
   where
-    one : Restored S
+    one : Replaying S
     one = record (b.one r) { rank = arrive (b.one r).rank s m }
 
     sent : List Message

@@ -4,7 +4,7 @@ use Rattle.std.specs.Prelude.{◌&&◌, ◌==◌, nat_lt, length}
 use Rattle.std.specs.List.{AllByRecursion}
 use Rattle.std.proofs.lemmas.Bool.{cond_both, and_parts, and_left, ne_eqb, eqb-true, ltb-true, cases_eq, true≢false}
 use Rattle.mpi_words.specs.declared.control.Control.{Control}
-use Rattle.mpi_words.specs.declared.control.Control.TheVariants.{Request, Count, Ready, Stop, Stopped, Restored as Restored_now}
+use Rattle.mpi_words.specs.declared.control.Control.TheVariants.{Request, Count, Ready, Stop, Stopped, Restored}
 use Rattle.core_laws.specs.Rows.{set_at}
 use Rattle.core_laws.specs.Protocol.{Wave, Protocol, move_told, move_pop, move_stop, move_note_ready, move_note_stopped, move_tell_stop, move_commit}
 use Rattle.core_laws.specs.Process.{Rank, Ranks}
@@ -37,7 +37,7 @@ idle_handles n p s r (Stop l ∷ rest) a is inv h = cond_both (p.layer r).loggin
 idle_handles n p s r (Stopped l ∷ rest) a is inv h = absurd (none_stopped p.wave.line (p.wave.ready s) (p.wave.stopped s) (p.layer s).epoch (p.layer s).logging (p.layer s).was_ready l rest
     (omega (arith, (inv.kept.rank s a).most, ap bit h))
     (subst (λ c. UpKept p.wave.line (p.wave.ready s) (p.wave.stopped s) (p.layer s).epoch (p.layer s).logging (p.layer s).was_ready c) (ap (p.control s) (sym (may_come n p s r (Stopped l) rest is inv)) ∙ is) (inv.kept.up s a)))
-idle_handles n p s r (Restored_now ∷ rest) a is inv h = (refl, h)
+idle_handles n p s r (Restored ∷ rest) a is inv h = (refl, h)
 
 -- in a wave it may go on, or be over with one line more
 data Ends (w v : Wave) : Type 0 where
@@ -51,7 +51,7 @@ ends_handles n p s r (Count l k ∷ rest) = Stays (ap (λ w. w.line) (wave_then_
 ends_handles n p s r (Ready l ∷ rest) = let p' = move_note_ready p s r rest in cond_both (all_below n p'.wave.ready) (move_tell_stop p') p' (λ (q : Protocol). Ends p.wave q.wave) (λ e. Stays refl) (λ e. Stays refl)
 ends_handles n p s r (Stop l ∷ rest) = cond_both (p.layer r).logging (move_stop (move_pop p s r rest) r) (move_pop p s r rest) (λ (q : Protocol). Ends p.wave q.wave) (λ e. Stays refl) (λ e. Stays refl)
 ends_handles n p s r (Stopped l ∷ rest) = let p' = move_note_stopped p s r rest in cond_both (all_below n p'.wave.stopped) (move_commit p') p' (λ (q : Protocol). Ends p.wave q.wave) (λ e. Commits refl refl) (λ e. Stays refl)
-ends_handles n p s r (Restored_now ∷ rest) = Stays refl
+ends_handles n p s r (Restored ∷ rest) = Stays refl
 
 -- The events of a sweep.
 abbrev IsMove : Event → Type 0

@@ -4,7 +4,7 @@ use Rattle.std.specs.Prelude.{◌&&◌, ◌==◌, nat_lt}
 use Rattle.std.specs.List.{AllByRecursion}
 use Rattle.std.proofs.lemmas.Bool.{cond_both, and_parts, ltb-true}
 use Rattle.mpi_words.specs.declared.control.Control.{Control}
-use Rattle.mpi_words.specs.declared.control.Control.TheVariants.{Request, Count, Ready, Stop, Stopped, Restored as Restored_now}
+use Rattle.mpi_words.specs.declared.control.Control.TheVariants.{Request, Count, Ready, Stop, Stopped, Restored}
 use Rattle.core_laws.specs.Rows.{set_at, set_pair}
 use Rattle.core_laws.specs.Protocol.{Packet, Protocol, move_send, move_skip, move_save, move_arrive, move_ready, move_stop, move_pop, move_told, move_note_ready, move_note_stopped, move_tell_stop, move_commit, move_start, move_tell_restored, restarted, told_restored}
 use Rattle.core_laws.specs.Process.{Ranks, ranks, Process, Did, Nothing, Sent, Local, Marked}
@@ -42,7 +42,7 @@ says_stop : (n : ℕ) (p : Protocol) (r : ℕ) → (p.layer r).epoch ≡ suc p.w
 says_stop n p r e h x b = pushed (suc p.wave.line) p.control r 0 (Stopped (p.layer r).epoch) x e (h x b)
 
 says_restored : (n : ℕ) (was now : Bool) (p : Protocol) (r : ℕ) → Says n p → Says n (then_restored was now p r)
-says_restored n was now p r h = cond_both (not was && now) (move_tell_restored p r) p (Says n) (λ e x b. pushed (suc p.wave.line) p.control r 0 Restored_now x tt (h x b)) (λ e. h)
+says_restored n was now p r h = cond_both (not was && now) (move_tell_restored p r) p (Says n) (λ e x b. pushed (suc p.wave.line) p.control r 0 Restored x tt (h x b)) (λ e. h)
 
 says_after : (n : ℕ) (p : Protocol) (r : ℕ) (d : Did) → r < n → Kept n p → Says n p → Says n (protocol_after n p r d)
 says_after n p r Nothing a k h = h
@@ -65,7 +65,7 @@ nothing_said L (Stopped l ∷ c) a b = absurd (omega arith)
 nothing_said L (Request l ∷ c) a b = (tt, nothing_said L c a b)
 nothing_said L (Count l k ∷ c) a b = (tt, nothing_said L c a b)
 nothing_said L (Stop l ∷ c) a b = (tt, nothing_said L c a b)
-nothing_said L (Restored_now ∷ c) a b = (tt, nothing_said L c a b)
+nothing_said L (Restored ∷ c) a b = (tt, nothing_said L c a b)
 
 says_handles : (n : ℕ) (p : Protocol) (s r : ℕ) (c : List Control) → s < n → r < n → p.control s r ≡ c → Invariant n p → Says n p → Says n (handles n p s r c)
 says_handles n p s r [] a b is i h = h
@@ -79,7 +79,7 @@ says_handles n p s r (Stop l ∷ rest) a b is i h = let q = move_pop p s r rest 
     cond_both (p.layer r).logging (move_stop q r) q (Says n)
     (λ e. says_stop n q r (logs_saved n p r b e i.kept) (λ x d. popped (suc p.wave.line) p.control s r (Stop l) rest x is (h x d)))
     (λ e x d. popped (suc p.wave.line) p.control s r (Stop l) rest x is (h x d))
-says_handles n p s r (Restored_now ∷ rest) a b is i h = λ x d. popped (suc p.wave.line) p.control s r Restored_now rest x is (h x d)
+says_handles n p s r (Restored ∷ rest) a b is i h = λ x d. popped (suc p.wave.line) p.control s r Restored rest x is (h x d)
 says_handles n p s r (Stopped l ∷ rest) a b is i h = cond_both (all_below n q.wave.stopped) (move_commit q) q (Says n)
     (λ e x d. nothing_said (suc (suc p.wave.line)) (q.control x 0) (readies e x d) (stoppeds e x d))
     (λ e x d. popped (suc p.wave.line) p.control s r (Stopped l) rest x is (h x d))

@@ -4,7 +4,7 @@ use Rattle.std.specs.Prelude.{◌&&◌, ◌==◌, nat_lt, if◌then◌else◌}
 use Rattle.std.specs.List.{AllByRecursion}
 use Rattle.std.proofs.lemmas.Bool.{cond_both, cond-true, cond-false, cases_Bool, and_parts, and_from, and_left, and_right, ltb-true, lt-ltb, le-ltb, not-true, eqb-true, eq-eqb, ne_eqb, false≢true, true≢false}
 use Rattle.mpi_words.specs.declared.control.Control.{Control}
-use Rattle.mpi_words.specs.declared.control.Control.TheVariants.{Request, Count, Ready, Stop, Stopped, Restored as Restored_now}
+use Rattle.mpi_words.specs.declared.control.Control.TheVariants.{Request, Count, Ready, Stop, Stopped, Restored}
 use Rattle.mpi_words.specs.declared.message.Message.{Message}
 use Rattle.core_laws.specs.Rows.{set_at}
 use Rattle.core_laws.specs.Protocol.{Packet, Layer, Protocol, Class, Late, Intra, Early, layer_arrive, class_of, layer_save, layer_send, move_send, move_skip, move_save, move_arrive, move_ready, move_stop, move_pop, move_asked, move_told, move_note_ready, move_note_stopped, move_tell_stop, move_commit, move_tell_restored, move_note_restored}
@@ -13,7 +13,7 @@ use Rattle.core_laws.specs.Quiet.{Event, Turn, Deliver, Handle, Begin_wave}
 use Rattle.core_laws.specs.Written.{Written, written_turn, written_arrive}
 use Rattle.core_laws.specs.Handling.{after_save, after_stop, all_below, handles, then_ready, then_stop, ready_due, stops_at, protocol_after}
 use Rattle.core_laws.specs.Invariant.{DownKept, Invariant, bit}
-use Rattle.core_laws.specs.Replay.{Restored, may_turn}
+use Rattle.core_laws.specs.Replay.{Replaying, may_turn}
 use Rattle.core_laws.specs.Core.{Core, is_back, then_restored, one_turned, core_turned, accepts, landed, core_arrived, core_delivers, core_handled, may_begin, core_began, step_of, steps_of, last_line}
 use Rattle.core_laws.specs.CoreEvents.{sweep_events, Core_event, Single, Sweep, Kill, next_of, start_of, restart_from, restart_of}
 use Rattle.core_laws.specs.Kept.{IsKept}
@@ -233,7 +233,7 @@ logged {S} n f c c' r saved written line epochs others h = record {
     same i = record { image = i.image; early = i.early }
 
 -- An arrival: the stop, if there is one, and then the rest.
-rest_filed : {S : Type 0} (n : ℕ) (f : Files S) (c : Core S) (s r : ℕ) (v : Restored S) (x : Packet) (rest : List Packet) → LinesFiled n f (record c { protocol = then_stop c.protocol r x }) → LinesFiled n f (core_arrived n c s r v x rest)
+rest_filed : {S : Type 0} (n : ℕ) (f : Files S) (c : Core S) (s r : ℕ) (v : Replaying S) (x : Packet) (rest : List Packet) → LinesFiled n f (record c { protocol = then_stop c.protocol r x }) → LinesFiled n f (core_arrived n c s r v x rest)
 rest_filed {S} n f c s r v x rest h = filed_same n f (record c { protocol = q }) (core_arrived n c s r v x rest) refl
     (ap (λ w. w.line) (restored_wave (is_back (c.one r)) (is_back v) ready r ∙ ready_wave n moved r))
     (λ y b. flags_trans (q.layer y) (ready.layer y) ((then_restored (is_back (c.one r)) (is_back v) ready r).layer y)
@@ -302,7 +302,7 @@ control_filed {S} n f c s r (Stop l ∷ rest) a b is sound h = go (c.protocol.la
     go : (g : Bool) → LinesFiled n (with_effects f (log_effects r (c.written r) g)) (core_handled c (if g then move_stop q r else q))
     go true = with_saved n (with_effect f (Logs r (c.written r).log (c.written r).ops)) c (move_stop q r) refl (stopped_filed n f c q r refl refl h)
     go false = handled_same n f c q refl (λ x. flags_refl (c.protocol.layer x)) h
-control_filed n f c s r (Restored_now ∷ rest) a b is sound h = handled_same n f c (move_note_restored c.protocol s r rest) refl (λ x. flags_refl (c.protocol.layer x)) h
+control_filed n f c s r (Restored ∷ rest) a b is sound h = handled_same n f c (move_note_restored c.protocol s r rest) refl (λ x. flags_refl (c.protocol.layer x)) h
 control_filed {S} n f c s r (Stopped l ∷ rest) a b is sound h = ⊎_elim
     (λ e. subst (λ k. LinesFiled n (with_effects f k) (core_handled c (handles n c.protocol s r (Stopped l ∷ rest)))) (sym (cond-true (all_below n q.wave.stopped) one none e)) (commits e))
     (λ e. subst (λ k. LinesFiled n (with_effects f k) (core_handled c (handles n c.protocol s r (Stopped l ∷ rest)))) (sym (cond-false (all_below n q.wave.stopped) one none e))

@@ -2,7 +2,7 @@
 use Rattle.std.proofs.Common.{pred, ◌≡◌, ℕ, suc, ◌<◌, Bool, true, false, not, List, [], ◌∷◌, ◌++◌, Some, None, sym, refl, ap, ◌∙◌, subst, ⊎_elim, arith}
 use Rattle.std.specs.Prelude.{◌&&◌, ◌==◌}
 use Rattle.mpi_words.specs.declared.control.Control.{Control}
-use Rattle.mpi_words.specs.declared.control.Control.TheVariants.{Request, Count, Ready, Stop, Stopped, Restored as Restored_now}
+use Rattle.mpi_words.specs.declared.control.Control.TheVariants.{Request, Count, Ready, Stop, Stopped, Restored}
 use Rattle.mpi_words.specs.declared.message.Message.{Message}
 use Rattle.core_laws.specs.Rows.{set_at, set_pair}
 use Rattle.core_laws.specs.Protocol.{Packet, Layer, Protocol, Class, Late, Intra, Early, class_of, layer_arrive, layer_send, layer_save, move_send, move_save, move_arrive, move_ready, move_stop, move_pop, move_asked, move_told, move_note_ready, move_note_stopped, move_tell_stop, move_commit, move_start, move_skip, move_tell_restored, move_note_restored}
@@ -391,17 +391,17 @@ kept_tell_restored n p r h = record {
   skips = h.skips;
   noted = h.noted;
   rank = h.rank;
-  down = λ x b. push_pair (down_kept p.wave (p.layer x)) p.control r 0 Restored_now 0 x (λ c old. RankMoves.down_push p.wave.line p.wave.under_way p.wave.stop_told (p.layer x).epoch (p.layer x).asked c Restored_now tt refl old) (h.down x b);
-  up = λ x b. push_pair (up_kept p.wave (p.wave.ready x) (p.wave.stopped x) (p.layer x)) p.control r 0 Restored_now x 0 (λ c old. RankMoves.up_push p.wave.line (p.wave.ready x) (p.wave.stopped x) (p.layer x).epoch (p.layer x).logging (p.layer x).was_ready c Restored_now refl refl old) (h.up x b);
-  pair = λ x y a b. push_pair (λ c. PairKept p.wave.line (out_of (p.layer x) y) (in_of (p.layer y) x) (p.channel x y) c) p.control r 0 Restored_now x y (λ c old. pair_push p.wave.line (out_of (p.layer x) y) (in_of (p.layer y) x) (p.channel x y) c Restored_now refl old) (h.pair x y a b);
+  down = λ x b. push_pair (down_kept p.wave (p.layer x)) p.control r 0 Restored 0 x (λ c old. RankMoves.down_push p.wave.line p.wave.under_way p.wave.stop_told (p.layer x).epoch (p.layer x).asked c Restored tt refl old) (h.down x b);
+  up = λ x b. push_pair (up_kept p.wave (p.wave.ready x) (p.wave.stopped x) (p.layer x)) p.control r 0 Restored x 0 (λ c old. RankMoves.up_push p.wave.line (p.wave.ready x) (p.wave.stopped x) (p.layer x).epoch (p.layer x).logging (p.layer x).was_ready c Restored refl refl old) (h.up x b);
+  pair = λ x y a b. push_pair (λ c. PairKept p.wave.line (out_of (p.layer x) y) (in_of (p.layer y) x) (p.channel x y) c) p.control r 0 Restored x y (λ c old. pair_push p.wave.line (out_of (p.layer x) y) (in_of (p.layer y) x) (p.channel x y) c Restored refl old) (h.pair x y a b);
 }
 
-pub kept_note_restored : (n : ℕ) (p : Protocol) (s r : ℕ) (rest : List Control) → p.control s r ≡ Restored_now ∷ rest → Kept n p → Kept n (move_note_restored p s r rest)
+pub kept_note_restored : (n : ℕ) (p : Protocol) (s r : ℕ) (rest : List Control) → p.control s r ≡ Restored ∷ rest → Kept n p → Kept n (move_note_restored p s r rest)
 kept_note_restored n p s r rest is h = record {
   skips = h.skips;
   noted = h.noted;
   rank = h.rank;
-  down = λ x b. pop_pair (down_kept p.wave (p.layer x)) p.control s r Restored_now rest 0 x is (λ old. RankMoves.down_pop p.wave.line p.wave.under_way p.wave.stop_told (p.layer x).epoch (p.layer x).asked Restored_now rest refl old) (h.down x b);
-  up = λ x b. pop_pair (up_kept p.wave (p.wave.ready x) (p.wave.stopped x) (p.layer x)) p.control s r Restored_now rest x 0 is (λ old. RankMoves.up_pop p.wave.line (p.wave.ready x) (p.wave.stopped x) (p.layer x).epoch (p.layer x).logging (p.layer x).was_ready Restored_now rest refl refl old) (h.up x b);
-  pair = λ x y a b. pop_pair (λ c. PairKept p.wave.line (out_of (p.layer x) y) (in_of (p.layer y) x) (p.channel x y) c) p.control s r Restored_now rest x y is (λ old. pair_pop p.wave.line (out_of (p.layer x) y) (in_of (p.layer y) x) (p.channel x y) Restored_now rest refl old) (h.pair x y a b);
+  down = λ x b. pop_pair (down_kept p.wave (p.layer x)) p.control s r Restored rest 0 x is (λ old. RankMoves.down_pop p.wave.line p.wave.under_way p.wave.stop_told (p.layer x).epoch (p.layer x).asked Restored rest refl old) (h.down x b);
+  up = λ x b. pop_pair (up_kept p.wave (p.wave.ready x) (p.wave.stopped x) (p.layer x)) p.control s r Restored rest x 0 is (λ old. RankMoves.up_pop p.wave.line (p.wave.ready x) (p.wave.stopped x) (p.layer x).epoch (p.layer x).logging (p.layer x).was_ready Restored rest refl refl old) (h.up x b);
+  pair = λ x y a b. pop_pair (λ c. PairKept p.wave.line (out_of (p.layer x) y) (in_of (p.layer y) x) (p.channel x y) c) p.control s r Restored rest x y is (λ old. pair_pop p.wave.line (out_of (p.layer x) y) (in_of (p.layer y) x) (p.channel x y) Restored rest refl old) (h.pair x y a b);
 }

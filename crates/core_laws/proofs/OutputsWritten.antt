@@ -9,7 +9,7 @@ use Rattle.late_logs.specs.declared.entry.Entry.TheVariants.{Late as Late_entry,
 use Rattle.mpi_queues.specs.Firsts.{Taken}
 use Rattle.mpi_queues.specs.Arrivals.{Arrival, given}
 use Rattle.mpi_words.specs.declared.control.Control.{Control}
-use Rattle.mpi_words.specs.declared.control.Control.TheVariants.{Request, Count, Ready, Stop, Stopped, Restored as Restored_now}
+use Rattle.mpi_words.specs.declared.control.Control.TheVariants.{Request, Count, Ready, Stop, Stopped, Restored}
 use Rattle.mpi_words.specs.declared.message.Message.{Message}
 use Rattle.mpi_words.specs.declared.operation.Op.TheVariants.{Send, Receive, Output, Mark}
 use Rattle.mpi_words.specs.declared.operation.Reply.{Reply}
@@ -19,7 +19,7 @@ use Rattle.core_laws.specs.Process.{Ranks, ranks, Process, Rank, Want, Wants, En
 use Rattle.core_laws.specs.Quiet.{Event, Turn, Deliver, Handle, Begin_wave}
 use Rattle.core_laws.specs.Written.{Written, written_turn, written_arrive}
 use Rattle.core_laws.specs.Handling.{after_save, after_stop, all_below, handles, then_stop, stops_at}
-use Rattle.core_laws.specs.Replay.{Restored, absorb, may_turn}
+use Rattle.core_laws.specs.Replay.{Replaying, absorb, may_turn}
 use Rattle.core_laws.specs.Core.{Core, one_turned, core_turned, accepts, landed, core_delivers, core_handled, may_begin, core_began, step_of, steps_of}
 use Rattle.core_laws.specs.CoreEvents.{sweep_events, Core_event, Single, Sweep, Kill, next_of, start_of, restart_from, restart_of}
 use Rattle.core_laws.specs.Pausing.{Stepping, stepping, Stop_at, Paused, Asks, stopped_at, with_machine}
@@ -114,7 +114,7 @@ turn_written false false w t o bytes e h = subst (StartsWith (o ++ bytes)) (sym 
 turn_outputs : {S : Type 0} (n : ℕ) (f f' : Files S) (c : Core S) (r : ℕ) (t : Turned S) → r < n → Appends (c.one r).rank t → f'.output ≡ set_at f.output r (f.output r ++ bytes_of (c.one r).rank.output t.rank.output t.did) → OutputsFiled n f c → OutputsFiled n f' (core_turned n c r t)
 unfolding Appends
 turn_outputs {S} n f f' c r t inside appends is h = record {
-  outputs = λ x b. ap (λ o. o x) is ∙ at_set_both (λ o (v : Restored S). o ≡ v.rank.output) f.output c.one r (f.output r ++ bytes) (one_turned (c.one r) t) x (λ _. ap (λ o. o ++ bytes) (h.outputs r inside) ∙ sym appends) (λ _. h.outputs x b);
+  outputs = λ x b. ap (λ o. o x) is ∙ at_set_both (λ o (v : Replaying S). o ≡ v.rank.output) f.output c.one r (f.output r ++ bytes) (one_turned (c.one r) t) x (λ _. ap (λ o. o ++ bytes) (h.outputs r inside) ∙ sym appends) (λ _. h.outputs x b);
   committed = λ x b. subst (λ o. StartsWith (o x) (c.saved x).image.output) (sym is) (at_set (λ o. StartsWith o (c.saved x).image.output) f.output r (f.output r ++ bytes) x
       (λ e. starts_more (f.output r) (c.saved x).image.output bytes (subst (λ z. StartsWith (f.output z) (c.saved x).image.output) e (h.committed x b))) (λ _. h.committed x b));
   written = λ x b. subst (λ o. StartsWith (o x) (written x).image.output) (sym is) (at_set_both (λ o (w : Written S). StartsWith o w.image.output) f.output c.written r (f.output r ++ bytes) (written_turn (after_stop c.protocol r) (after_save c.protocol r) (c.written r) t) x
@@ -133,7 +133,7 @@ absorb_output left k [] = refl
 absorb_output left k (Late_entry s m ∷ l) = absorb_output left (arrive k s m) l
 absorb_output left k (Intra_entry s ∷ l) = refl
 
-landed_output : {S : Type 0} (v : Restored S) (log : List Entry) (s : ℕ) (m : Message) → (landed v log s m).rank.output ≡ v.rank.output
+landed_output : {S : Type 0} (v : Replaying S) (log : List Entry) (s : ℕ) (m : Message) → (landed v log s m).rank.output ≡ v.rank.output
 landed_output v [] s m = refl
 landed_output v (e ∷ log) s m = absorb_output v.left (arrive v.rank s m) log
 
@@ -158,7 +158,7 @@ log_output f r w false = refl
 arrival_outputs : {S : Type 0} (n : ℕ) (f : Files S) (c : Core S) (s r : ℕ) (q : List Packet) → OutputsFiled n f c → OutputsFiled n (with_effects f (arrival_effects c r q)) (core_delivers n c s r q)
 arrival_outputs n f c s r [] h = h
 arrival_outputs {S} n f c s r (x ∷ rest) h = same_outputs n f (with_effects f (arrival_effects c r (x ∷ rest))) c (core_delivers n c s r (x ∷ rest)) (log_output f r (c.written r) (stops_at (c.protocol.layer r) x))
-    (λ y. at_set (λ (v : Restored S). v.rank.output ≡ (c.one y).rank.output) c.one r (landed (c.one r) (c.one r).log s x.0) y (λ e. landed_output (c.one r) (c.one r).log s x.0 ∙ ap (λ z. (c.one z).rank.output) (sym e)) (λ _. refl))
+    (λ y. at_set (λ (v : Replaying S). v.rank.output ≡ (c.one y).rank.output) c.one r (landed (c.one r) (c.one r).log s x.0) y (λ e. landed_output (c.one r) (c.one r).log s x.0 ∙ ap (λ z. (c.one z).rank.output) (sym e)) (λ _. refl))
     (λ y. at_set (λ (w : Written S). w.image.output ≡ (c.written y).image.output) c.written r (written_arrive (after_stop p r) (after_save p r) (class_of (p.layer r).epoch x.1.epoch) (c.written r) s x.0) y
     (λ e. arrive_output (after_stop p r) (after_save p r) (class_of (p.layer r).epoch x.1.epoch) (c.written r) s x.0 ∙ ap (λ z. (c.written z).image.output) (sym e)) (λ _. refl))
     h.committed h
@@ -172,7 +172,7 @@ control_output n f c s r [] = refl
 control_output n f c s r (Request l ∷ q) = refl
 control_output n f c s r (Count l k ∷ q) = refl
 control_output n f c s r (Ready l ∷ q) = refl
-control_output n f c s r (Restored_now ∷ q) = refl
+control_output n f c s r (Restored ∷ q) = refl
 control_output n f c s r (Stop l ∷ q) = log_output f r (c.written r) (c.protocol.layer r).logging
 control_output {S} n f c s r (Stopped l ∷ q) = commits (all_below n (set_at c.protocol.wave.stopped s true))
   where

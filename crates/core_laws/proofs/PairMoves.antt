@@ -4,7 +4,7 @@ use Rattle.std.specs.Prelude.{IfSome, is_some, ◌&&◌, ◌==◌}
 use Rattle.std.specs.List.{AllByRecursion}
 use Rattle.std.proofs.lemmas.Bool.{eqb-true, eq-eqb, ne_eqb, lt-ltb, le-ltb, cases_eq, false_from_ne_true, and_parts, and_from, and_left, and_right, cases_lt, cases_order}
 use Rattle.mpi_words.specs.declared.control.Control.{Control}
-use Rattle.mpi_words.specs.declared.control.Control.TheVariants.{Request, Count, Ready, Stop, Stopped, Restored as Restored_now}
+use Rattle.mpi_words.specs.declared.control.Control.TheVariants.{Request, Count, Ready, Stop, Stopped, Restored}
 use Rattle.mpi_words.specs.declared.message.Message.{Message}
 use Rattle.core_laws.specs.Protocol.{Packet}
 use Rattle.core_laws.proofs.ManyControls.{many-push, many-first}
@@ -30,7 +30,7 @@ CountsSay-push k (Count l j ∷ c) x h e = (h.0, CountsSay-push k c x h.1 e)
 CountsSay-push k (Ready l ∷ c) x h e = CountsSay-push k c x h e
 CountsSay-push k (Stop l ∷ c) x h e = CountsSay-push k c x h e
 CountsSay-push k (Stopped l ∷ c) x h e = CountsSay-push k c x h e
-CountsSay-push k (Restored_now ∷ c) x h e = CountsSay-push k c x h e
+CountsSay-push k (Restored ∷ c) x h e = CountsSay-push k c x h e
 
 -- what has arrived, by the receiver's epoch
 pub arrived_late : (i : In) (e : ℕ) → e < i.epoch → arrived i e ≡ i.old
@@ -61,7 +61,7 @@ no_counts k (Count l j ∷ c) h = absurd (omega arith)
 no_counts k (Ready l ∷ c) h = no_counts k c h
 no_counts k (Stop l ∷ c) h = no_counts k c h
 no_counts k (Stopped l ∷ c) h = no_counts k c h
-no_counts k (Restored_now ∷ c) h = no_counts k c h
+no_counts k (Restored ∷ c) h = no_counts k c h
 
 not_told : (t : Option ℕ) (P : ℕ → Type 0) → bit (is_some t) ≡ 0 → IfSome t P
 not_told None P h = tt
@@ -222,7 +222,7 @@ says_rest k (Count l j) c h = h.1
 says_rest k (Ready l) c h = h
 says_rest k (Stop l) c h = h
 says_rest k (Stopped l) c h = h
-says_rest k Restored_now c h = h
+says_rest k Restored c h = h
 
 pub pair_pop : (L : ℕ) (o : Out) (i : In) (q : List Packet) (x : Control) (c : List Control) → counts_on (x ∷ []) ≡ 0 → PairKept L o i q (x ∷ c) → PairKept L o i q c
 pair_pop L o i q x c none h = record {

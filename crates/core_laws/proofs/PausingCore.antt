@@ -7,7 +7,7 @@ use Rattle.std.proofs.lemmas.Bool.{cond_both, cond-true, cases_lt, and_parts, lt
 use Rattle.late_logs.specs.declared.entry.Entry.{Entry}
 use Rattle.late_logs.specs.declared.entry.Entry.TheVariants.{Late as Late_entry, Intra as Intra_entry}
 use Rattle.mpi_words.specs.declared.control.Control.{Control}
-use Rattle.mpi_words.specs.declared.control.Control.TheVariants.{Request, Count, Ready, Stop, Stopped, Restored as Restored_now}
+use Rattle.mpi_words.specs.declared.control.Control.TheVariants.{Request, Count, Ready, Stop, Stopped, Restored}
 use Rattle.mpi_words.specs.declared.message.Message.{Message}
 use Rattle.core_laws.specs.Rows.{set_at}
 use Rattle.core_laws.specs.Protocol.{Packet, Layer, Protocol, Class, Late, Intra, Early, layer_arrive, class_of, layer_save, layer_send, restarted, move_send, move_skip, move_save, move_arrive, move_ready, move_stop, move_pop, move_asked, move_told, move_note_ready, move_note_stopped, move_tell_stop, move_commit, move_start, move_tell_restored}
@@ -17,7 +17,7 @@ use Rattle.core_laws.specs.Written.{Written, written_turn, written_arrive}
 use Rattle.core_laws.specs.Handling.{after_save, after_stop, all_below, handles, then_ready, then_stop, ready_due, stops_at, protocol_after}
 use Rattle.core_laws.specs.Stopping.{contents}
 use Rattle.core_laws.specs.Invariant.{Kept, bit}
-use Rattle.core_laws.specs.Replay.{Restored, absorb, may_turn, Lags, journal_of, PairLags}
+use Rattle.core_laws.specs.Replay.{Replaying, absorb, may_turn, Lags, journal_of, PairLags}
 use Rattle.core_laws.specs.Core.{Core, is_back, restores, then_restored, one_turned, core_turned, accepts, landed, core_arrived, core_delivers, core_handled, may_begin, core_began, step_of, steps_of, back_of, last_line}
 use Rattle.core_laws.specs.CoreEvents.{Core_event, Single, Sweep, Kill, next_of, start_of, one_from, restart_from, restart_of, Session_event, Core_does, Restart, session_of, sweep_events, below, times, row_events, pair_events}
 use Rattle.core_laws.specs.Line.{Logged, Stands, sends_to, intra_from, replayed}
@@ -72,7 +72,7 @@ epochs_handles n p s r (Ready l ∷ rest) x = cond_both (all_below n (move_note_
 epochs_handles n p s r (Stop l ∷ rest) x = cond_both (p.layer r).logging (move_stop (move_pop p s r rest) r) (move_pop p s r rest) (λ z. (z.layer x).epoch ≡ (p.layer x).epoch)
     (λ e. epochs_set (move_pop p s r rest) (move_stop (move_pop p s r rest) r) r (record (p.layer r) { logging = false }) refl refl x) (λ e. refl)
 epochs_handles n p s r (Stopped l ∷ rest) x = cond_both (all_below n (move_note_stopped p s r rest).wave.stopped) (move_commit (move_note_stopped p s r rest)) (move_note_stopped p s r rest) (λ z. (z.layer x).epoch ≡ (p.layer x).epoch) (λ e. refl) (λ e. refl)
-epochs_handles n p s r (Restored_now ∷ rest) x = refl
+epochs_handles n p s r (Restored ∷ rest) x = refl
 
 -- a turn leaves the layers of the others
 ready_other : (n : ℕ) (p : Protocol) (r x : ℕ) → (x ≡ r → ⊥) → ((then_ready n p r).layer x).epoch ≡ (p.layer x).epoch
@@ -135,24 +135,24 @@ same_rank : {S : Type 0} (P : Stepping S) (most : ℕ) (k u : Rank S) → u ≡ 
 same_rank P most k u e = record { pauses = 0; few = omega arith; machine = Same refl (ap (λ x. x.machine) (sym e)); mail = ap (λ x. x.mail) e; output = ap (λ x. x.output) e }
 
 -- one rank's record against another
-record IsOne {S : Type 0} (P : Stepping S) (most : ℕ) (o v : Restored S) : Type 0 where
+record IsOne {S : Type 0} (P : Stepping S) (most : ℕ) (o v : Replaying S) : Type 0 where
   log : v.log ≡ o.log
   left : v.left ≡ o.left
   rank : IsRank P most o.rank v.rank
 
-back_same : {S : Type 0} (o v : Restored S) → v.log ≡ o.log → v.left ≡ o.left → is_back v ≡ is_back o
+back_same : {S : Type 0} (o v : Replaying S) → v.log ≡ o.log → v.left ≡ o.left → is_back v ≡ is_back o
 back_same o v e f = ap (λ l. not (restores l v.left)) e ∙ ap (λ k. not (restores o.log k)) f
 
-landed_log : {S : Type 0} (o v : Restored S) (log : List Entry) (s : ℕ) (m : Message) → v.log ≡ o.log → v.left ≡ o.left → ((landed v log s m).log ≡ (landed o log s m).log) × ((landed v log s m).left ≡ (landed o log s m).left)
+landed_log : {S : Type 0} (o v : Replaying S) (log : List Entry) (s : ℕ) (m : Message) → v.log ≡ o.log → v.left ≡ o.left → ((landed v log s m).log ≡ (landed o log s m).log) × ((landed v log s m).left ≡ (landed o log s m).left)
 landed_log o v [] s m e f = (e, f)
 landed_log o v (x ∷ log) s m e f = (absorb_log v.left o.left (arrive v.rank s m) (arrive o.rank s m) log, absorb_left v.left (arrive v.rank s m) log ∙ f ∙ sym (absorb_left o.left (arrive o.rank s m) log))
 
-landed_rank : {S : Type 0} (P : Stepping S) (most : ℕ) (o v : Restored S) (log : List Entry) (s : ℕ) (m : Message) → IsRank P most o.rank v.rank → IsRank P most (landed o log s m).rank (landed v log s m).rank
+landed_rank : {S : Type 0} (P : Stepping S) (most : ℕ) (o v : Replaying S) (log : List Entry) (s : ℕ) (m : Message) → IsRank P most o.rank v.rank → IsRank P most (landed o log s m).rank (landed v log s m).rank
 landed_rank P most o v [] s m h = arrive_rank P most o.rank v.rank s m h
 landed_rank P most o v (x ∷ log) s m h = absorb_rank P most o.left v.left (arrive o.rank s m) (arrive v.rank s m) log (arrive_rank P most o.rank v.rank s m h)
 
 -- The core with the protocol and the kills of another.
-abbrev over : {S : Type 0} → Core S → (ℕ → Restored S) → (ℕ → Written S) → (ℕ → Written S) → Core S
+abbrev over : {S : Type 0} → Core S → (ℕ → Replaying S) → (ℕ → Written S) → (ℕ → Written S) → Core S
 over a o s w = record { one = o; killed = a.killed; saved = s; written = w; protocol = a.protocol }
 
 over_path : {S : Type 0} (P : Stepping S) (n most : ℕ) (a c : Core S) → IsCore P n most a c → c ≡ over a c.one c.saved c.written
@@ -169,7 +169,7 @@ stopped_saved : (p : Protocol) (r : ℕ) → after_stop p r ≡ true → after_s
 stopped_saved p r e = (and_parts ((p.layer r).epoch == suc p.wave.line) (not (p.layer r).logging) e).0
 
 -- Where it operates, the other does too.
-op_core : {S : Type 0} (P : Stepping S) (n most : ℕ) (a : Core S) (o : ℕ → Restored S) (s w : ℕ → Written S) (r : ℕ) (t : Turned S) → r < n → IsCore P n most a (over a o s w) → IsCore P n (suc most) (core_turned n a r t) (core_turned n (over a o s w) r t)
+op_core : {S : Type 0} (P : Stepping S) (n most : ℕ) (a : Core S) (o : ℕ → Replaying S) (s w : ℕ → Written S) (r : ℕ) (t : Turned S) → r < n → IsCore P n most a (over a o s w) → IsCore P n (suc most) (core_turned n a r t) (core_turned n (over a o s w) r t)
 op_core {S} P n most a o s w r t inside is = record {
   log = λ x. at_set_both (λ u v. v.log ≡ u.log) a.one o r (one_turned (a.one r) t) (one_turned (o r) t) x (λ _. is.log r) (λ _. is.log x);
   left = λ x. at_set_both (λ u v. v.left ≡ u.left) a.one o r (one_turned (a.one r) t) (one_turned (o r) t) x (λ _. left) (λ _. is.left x);
@@ -199,7 +199,7 @@ op_core {S} P n most a o s w r t inside is = record {
     left = ap (λ k. if is_operation t.did then pred k else k) (is.left r)
 
 -- Where it makes only local steps, the other stays.
-idle_core : {S : Type 0} (P : Stepping S) (n most : ℕ) (a : Core S) (o : ℕ → Restored S) (s w : ℕ → Written S) (r : ℕ) (t : Turned S) → r < n → t.did ≡ Nothing → IsRank P (suc most) (a.one r).rank t.rank → IsCore P n most a (over a o s w) → IsCore P n (suc most) a (core_turned n (over a o s w) r t)
+idle_core : {S : Type 0} (P : Stepping S) (n most : ℕ) (a : Core S) (o : ℕ → Replaying S) (s w : ℕ → Written S) (r : ℕ) (t : Turned S) → r < n → t.did ≡ Nothing → IsRank P (suc most) (a.one r).rank t.rank → IsCore P n most a (over a o s w) → IsCore P n (suc most) a (core_turned n (over a o s w) r t)
 idle_core {S} P n most a o s w r t inside none rank is = record {
   log = λ x. at_set (λ v. v.log ≡ (a.one x).log) o r (one_turned (o r) t) x (λ e. ap (λ z. (o z).log) (sym e) ∙ is.log x) (λ _. is.log x);
   left = λ x. at_set (λ v. v.left ≡ (a.one x).left) o r (one_turned (o r) t) x (λ e. left ∙ ap (λ z. (o z).left) (sym e) ∙ is.left x) (λ _. is.left x);
@@ -221,7 +221,7 @@ idle_core {S} P n most a o s w r t inside none rank is = record {
     left : (one_turned (o r) t).left ≡ (o r).left
     left = ap (λ d. if is_operation d then pred (o r).left else (o r).left) none
 
-turn_pausing : {S : Type 0} (P : Stepping S) (n b most : ℕ) (a : Core S) (o : ℕ → Restored S) (s w : ℕ → Written S) (r : ℕ) → r < n → most ≤ b → may_turn (o r).log (o r).left ≡ true → IsKept (without_pauses b P) n a → IsCore P n most a (over a o s w) → IsBeside P n b a o → IsKeptWithin P n b (suc most) (core_turned n (over a o s w) r (step_turn P (o r).rank))
+turn_pausing : {S : Type 0} (P : Stepping S) (n b most : ℕ) (a : Core S) (o : ℕ → Replaying S) (s w : ℕ → Written S) (r : ℕ) → r < n → most ≤ b → may_turn (o r).log (o r).left ≡ true → IsKept (without_pauses b P) n a → IsCore P n most a (over a o s w) → IsBeside P n b a o → IsKeptWithin P n b (suc most) (core_turned n (over a o s w) r (step_turn P (o r).rank))
 turn_pausing {S} P n b most a o s w r inside few may h is beside = go (turns_pausing P b most (a.one r).rank (o r).rank few (is.rank r inside))
   where
     may' : may_turn (a.one r).log (a.one r).left ≡ true
@@ -237,7 +237,7 @@ turn_pausing {S} P n b most a o s w r inside few may h is beside = go (turns_pau
     go (Goes_on none rank) = record { core = a; kept = h; is = idle_core P n most a o s w r (step_turn P (o r).rank) inside none rank is; beside = beside_idle P n b a o r inside may' none beside }
 
 -- An arrival.
-arrival_pausing : {S : Type 0} (P : Stepping S) (n most : ℕ) (a : Core S) (o : ℕ → Restored S) (s w : ℕ → Written S) (x r : ℕ) (m : Packet) (rest : List Packet) → r < n → IsCore P n most a (over a o s w)
+arrival_pausing : {S : Type 0} (P : Stepping S) (n most : ℕ) (a : Core S) (o : ℕ → Replaying S) (s w : ℕ → Written S) (x r : ℕ) (m : Packet) (rest : List Packet) → r < n → IsCore P n most a (over a o s w)
     → IsCore P n most (core_arrived n a x r (landed (a.one r) (a.one r).log x m.0) m rest) (core_arrived n (over a o s w) x r (landed (o r) (o r).log x m.0) m rest)
 arrival_pausing {S} P n most a o s w x r m rest inside is = subst (λ l. IsCore P n most (core_arrived n a x r (landed (a.one r) (a.one r).log x m.0) m rest) (core_arrived n (over a o s w) x r (landed (o r) l x m.0) m rest)) (sym (is.log r)) (record {
   log = λ y. at_set_both (λ u v. v.log ≡ u.log) a.one o r u v y (λ _. both.0) (λ _. is.log y);
@@ -261,10 +261,10 @@ arrival_pausing {S} P n most a o s w x r m rest inside is = subst (λ l. IsCore 
     moved : Protocol
     moved = then_ready n (move_arrive q x r m.1.epoch rest) r
 
-    u : Restored S
+    u : Replaying S
     u = landed (a.one r) (a.one r).log x m.0
 
-    v : Restored S
+    v : Replaying S
     v = landed (o r) (a.one r).log x m.0
 
     both : (v.log ≡ u.log) × (v.left ≡ u.left)
@@ -291,7 +291,7 @@ bit_true : (b : Bool) → 1 ≤ bit b → b ≡ true
 bit_true true h = refl
 bit_true false h = absurd (omega arith)
 
-handle_pausing : {S : Type 0} (P : Stepping S) (n b most : ℕ) (a : Core S) (o : ℕ → Restored S) (s w : ℕ → Written S) (x r : ℕ) → x < n → r < n → IsKept (without_pauses b P) n a → IsCore P n most a (over a o s w)
+handle_pausing : {S : Type 0} (P : Stepping S) (n b most : ℕ) (a : Core S) (o : ℕ → Replaying S) (s w : ℕ → Written S) (x r : ℕ) → x < n → r < n → IsKept (without_pauses b P) n a → IsCore P n most a (over a o s w)
     → IsCore P n most (core_handled a (handles n a.protocol x r (a.protocol.control x r))) (core_handled (over a o s w) (handles n a.protocol x r (a.protocol.control x r)))
 handle_pausing {S} P n b most a o s w x r c d h is = record {
   log = is.log;
@@ -324,7 +324,7 @@ handle_pausing {S} P n b most a o s w x r c d h is = record {
     go false e y = is.saved y
 
 -- A wave begins.
-begin_pausing : {S : Type 0} (P : Stepping S) (n b most : ℕ) (a : Core S) (o : ℕ → Restored S) (s w : ℕ → Written S) → a.protocol.wave.under_way ≡ false → IsKept (without_pauses b P) n a → IsCore P n most a (over a o s w)
+begin_pausing : {S : Type 0} (P : Stepping S) (n b most : ℕ) (a : Core S) (o : ℕ → Replaying S) (s w : ℕ → Written S) → a.protocol.wave.under_way ≡ false → IsKept (without_pauses b P) n a → IsCore P n most a (over a o s w)
     → IsCore P n most (core_began a) (core_began (over a o s w))
 begin_pausing P n b most a o s w none h is = record {
   log = is.log;
@@ -352,7 +352,7 @@ NoTurn (Deliver s r) = Unit {0}
 NoTurn (Handle s r) = Unit {0}
 NoTurn Begin_wave = Unit {0}
 
-delivers_pausing : {S : Type 0} (P : Stepping S) (n b most : ℕ) (a : Core S) (o : ℕ → Restored S) (s w : ℕ → Written S) (x r : ℕ) (q : List Packet) → x < n → r < n → a.protocol.channel x r ≡ q → accepts (o r).log (o r).left x ≡ true → IsKept (without_pauses b P) n a → IsCore P n most a (over a o s w) → IsBeside P n b a o
+delivers_pausing : {S : Type 0} (P : Stepping S) (n b most : ℕ) (a : Core S) (o : ℕ → Replaying S) (s w : ℕ → Written S) (x r : ℕ) (q : List Packet) → x < n → r < n → a.protocol.channel x r ≡ q → accepts (o r).log (o r).left x ≡ true → IsKept (without_pauses b P) n a → IsCore P n most a (over a o s w) → IsBeside P n b a o
     → IsKeptWithin P n b most (core_delivers n (over a o s w) x r q)
 delivers_pausing P n b most a o s w x r [] c d e ok h is beside = record { core = a; kept = h; is = is; beside = beside }
 delivers_pausing P n b most a o s w x r (m ∷ rest) c d e ok h is beside = record {
@@ -365,7 +365,7 @@ delivers_pausing P n b most a o s w x r (m ∷ rest) c d e ok h is beside = reco
     ok' : accepts (a.one r).log (a.one r).left x ≡ true
     ok' = sym (ap (λ l. accepts l (o r).left x) (is.log r) ∙ ap (λ k. accepts (a.one r).log k x) (is.left r)) ∙ ok
 
-over_still : {S : Type 0} (P : Stepping S) (n b most : ℕ) (a : Core S) (o : ℕ → Restored S) (s w : ℕ → Written S) (e : Event) → NoTurn e → IsKept (without_pauses b P) n a → IsCore P n most a (over a o s w) → IsBeside P n b a o → IsKeptWithin P n b most (step_of (stepping P) n (over a o s w) e)
+over_still : {S : Type 0} (P : Stepping S) (n b most : ℕ) (a : Core S) (o : ℕ → Replaying S) (s w : ℕ → Written S) (e : Event) → NoTurn e → IsKept (without_pauses b P) n a → IsCore P n most a (over a o s w) → IsBeside P n b a o → IsKeptWithin P n b most (step_of (stepping P) n (over a o s w) e)
 over_still P n b most a o s w (Turn r) still h is beside = absurd still
 over_still P n b most a o s w (Deliver x r) still h is beside = cond_both (nat_lt x n && (nat_lt r n && (not (a.killed r) && accepts (o r).log (o r).left x))) (core_delivers n (over a o s w) x r (a.protocol.channel x r)) (over a o s w) (IsKeptWithin P n b most)
     (λ e. let one = and_parts (nat_lt x n) (nat_lt r n && (not (a.killed r) && accepts (o r).log (o r).left x)) e in
@@ -574,5 +574,5 @@ lag_pausing {S} P n b most c few h = record {
     a₀ : Core S
     a₀ = h.core
 
-    same : (r : ℕ) → Path (Restored S) (record (c.one r) { rank = (a₀.one r).rank }) (a₀.one r)
+    same : (r : ℕ) → Path (Replaying S) (record (c.one r) { rank = (a₀.one r).rank }) (a₀.one r)
     same r = ap (λ l. record { rank = (a₀.one r).rank; log = l; left = (c.one r).left }) (h.is.log r) ∙ ap (λ k. record { rank = (a₀.one r).rank; log = (a₀.one r).log; left = k }) (h.is.left r)

@@ -11,7 +11,7 @@ use Rattle.core_laws.specs.Protocol.{Class, is_late}
 use Rattle.core_laws.specs.Process.{Process, Rank, Did, Nothing, Sent, Local, Marked, Turned, turn, is_operation}
 use Rattle.core_laws.specs.Quiet.{Event, Turn, Deliver, Handle, Begin_wave}
 use Rattle.core_laws.specs.Line.{Logged, Journal, journal_turn, journal_arrive}
-use Rattle.core_laws.specs.Replay.{entry, entries, Restored, absorb, Back, back_channel, back_skip, back_turn, back_arrives, back_next, restart}
+use Rattle.core_laws.specs.Replay.{entry, entries, Replaying, absorb, Back, back_channel, back_skip, back_turn, back_arrives, back_next, restart}
 use Rattle.core_laws.specs.Plan.{Turn_helps, Delivery_helps, Plan, HasPlan}
 use Rattle.core_laws.proofs.Changes.{at_set, at_set_both, set_at-same, set_at-other, set_pair-other_column, at_set_pair_both}
 use Rattle.core_laws.proofs.PlanKept.{set_same, back_path, one_done, next_turn, next_deliver, may_left, helps_turn, helps_delivery, no_handle, no_wave, took}
@@ -98,7 +98,7 @@ plan_alike {S} P n r (Deliver s y ∷ es) b c h p =
     not_both k l e f = (cc)
 
 -- The restart of journals, one of which changes.
-abbrev pub one_of : {S : Type 0} → Journal S → Restored S
+abbrev pub one_of : {S : Type 0} → Journal S → Replaying S
 one_of j = absorb j.ops j.image (entries j.since)
 
 -- before its save
@@ -118,7 +118,7 @@ plan_unsaved {S} P n j r v a b c d h = (
     nothing w e f = (ap (λ l. (absorb w.ops w.image (entries l)).log) e, ap (λ l. (absorb w.ops w.image (entries l)).left) e ∙ f)
 
 -- after it
-restart_extended : {S : Type 0} (j : ℕ → Journal S) (r : ℕ) (v : Journal S) (E : Restored S → Restored S) → one_of v ≡ E (one_of (j r)) → ((s : ℕ) → v.early s ≡ (j r).early s)
+restart_extended : {S : Type 0} (j : ℕ → Journal S) (r : ℕ) (v : Journal S) (E : Replaying S → Replaying S) → one_of v ≡ E (one_of (j r)) → ((s : ℕ) → v.early s ≡ (j r).early s)
     → restart (set_at j r v) ≡ record (restart j) { one = set_at (restart j).one r (E ((restart j).one r)) }
 restart_extended {S} j r v E e f = back_path (λ x. one_of (set_at j r v x)) (set_at (λ x. one_of (j x)) r (E (one_of (j r)))) (λ s y. []) (λ s y. []) (λ s y. (set_at j r v y).early s) (λ s y. (j y).early s)
     (fun_ext (λ x. at_set_both (λ w z. one_of w ≡ z) j (λ x. one_of (j x)) r v (E (one_of (j r))) x (λ _. e) (λ _. refl))) refl

@@ -9,7 +9,7 @@ use Rattle.mpi_words.specs.declared.message.Message.{Message}
 use Rattle.core_laws.specs.Rows.{set_at, set_pair}
 use Rattle.core_laws.specs.Process.{Process, Rank, Did, Nothing, Sent, Local, Marked, turn, arrive, is_operation}
 use Rattle.core_laws.specs.Quiet.{Event, Turn, Deliver, Handle, Begin_wave}
-use Rattle.core_laws.specs.Replay.{Restored, absorb, Back, may_turn, back_channel, back_skip, back_turn, back_arrives, back_deliver, back_next, back_run}
+use Rattle.core_laws.specs.Replay.{Replaying, absorb, Back, may_turn, back_channel, back_skip, back_turn, back_arrives, back_deliver, back_next, back_run}
 use Rattle.core_laws.specs.Plan.{IsDone, Helps, Turn_helps, Delivery_helps, Plan, HasPlan}
 use Rattle.core_laws.proofs.Changes
 use Rattle.core_laws.proofs.Changes.{at_set, at_set_both, set_at-same, set_at-other}
@@ -27,7 +27,7 @@ set_twice f a v w = fun_ext (λ x. at_set_both (λ y z. y ≡ z) (set_at f a v) 
 pub set_same : {A : Type 0} → (f : ℕ → A) (a : ℕ) → set_at f a (f a) ≡ f
 set_same f a = fun_ext (λ x. at_set (λ z. z ≡ f x) f a (f a) x (λ e. ap f (sym e)) (λ _. refl))
 
-pub back_path : {S : Type 0} (o o' : ℕ → Restored S) (c c' : ℕ → ℕ → List Message) (k k' : ℕ → ℕ → ℕ) → o ≡ o' → c ≡ c' → k ≡ k' → Path (Back S) (record { one = o; channel = c; skip = k }) (record { one = o'; channel = c'; skip = k' })
+pub back_path : {S : Type 0} (o o' : ℕ → Replaying S) (c c' : ℕ → ℕ → List Message) (k k' : ℕ → ℕ → ℕ) → o ≡ o' → c ≡ c' → k ≡ k' → Path (Back S) (record { one = o; channel = c; skip = k }) (record { one = o'; channel = c'; skip = k' })
 back_path o o' c c' k k' p q r = ap (λ x. record { one = x; channel = c; skip = k }) p ∙ ap (λ x. record { one = o'; channel = x; skip = k }) q ∙ ap (λ x. record { one = o'; channel = c'; skip = x }) r
 
 -- A turn by the rows of its rank.
@@ -59,10 +59,10 @@ skip_row skip r Local = sym (set_same skip r)
 skip_row skip r Marked = sym (set_same skip r)
 skip_row skip r (Sent to m) = refl
 
-abbrev pub one_done : {S : Type 0} → Process S → Restored S → Restored S
+abbrev pub one_done : {S : Type 0} → Process S → Replaying S → Replaying S
 one_done P v = record v { rank = (turn P v.rank).rank; left = if is_operation (turn P v.rank).did then pred v.left else v.left }
 
-by_rows : {S : Type 0} → Process S → Back S → ℕ → Restored S → (ℕ → List Message) → (ℕ → ℕ) → Back S
+by_rows : {S : Type 0} → Process S → Back S → ℕ → Replaying S → (ℕ → List Message) → (ℕ → ℕ) → Back S
 by_rows P b r v row skip = record {
   one = set_at b.one r (one_done P v);
   channel = set_at b.channel r (new_row row skip (turn P v.rank).did);
@@ -103,7 +103,7 @@ turn_turn {S} P b y r h = rows_other P b y r h
     skips x = new_skip (b.skip x) (turn P (b.one x).rank).did
 
 -- What a delivery makes of its rank, and a turn beside it.
-abbrev pub took : {S : Type 0} → Restored S → List Entry → ℕ → Message → Restored S
+abbrev pub took : {S : Type 0} → Replaying S → List Entry → ℕ → Message → Replaying S
 took v log s m = absorb v.left (arrive v.rank s m) log
 
 pub absorb_turn : {S : Type 0} (P : Process S) (l l' : ℕ) (k : Rank S) (log : List Entry) → is_operation (turn P k).did ≡ true → turn P (absorb l k log).rank ≡ record { rank = (absorb l' (turn P k).rank log).rank; did = (turn P k).did }
@@ -122,15 +122,15 @@ absorb_left l k [] = refl
 absorb_left l k (Late_entry a x ∷ log) = absorb_left l (arrive k a x) log
 absorb_left l k (Intra_entry a ∷ log) = refl
 
-pub restored_path : {S : Type 0} (k k' : Rank S) (g g' : List Entry) (l l' : ℕ) → k ≡ k' → g ≡ g' → l ≡ l' → Path (Restored S) (record { rank = k; log = g; left = l }) (record { rank = k'; log = g'; left = l' })
+pub restored_path : {S : Type 0} (k k' : Rank S) (g g' : List Entry) (l l' : ℕ) → k ≡ k' → g ≡ g' → l ≡ l' → Path (Replaying S) (record { rank = k; log = g; left = l }) (record { rank = k'; log = g'; left = l' })
 restored_path k k' g g' l l' p q r = ap (λ x. record { rank = x; log = g; left = l }) p ∙ ap (λ x. record { rank = k'; log = x; left = l }) q ∙ ap (λ x. record { rank = k'; log = g'; left = x }) r
 
 -- the turn of a rank that has one message more
-pub took_turn : {S : Type 0} (P : Process S) (v : Restored S) (log : List Entry) (s : ℕ) (m : Message) (l' : ℕ) → is_operation (turn P v.rank).did ≡ true → turn P (took v log s m).rank ≡ record { rank = (absorb l' (arrive (turn P v.rank).rank s m) log).rank; did = (turn P v.rank).did }
+pub took_turn : {S : Type 0} (P : Process S) (v : Replaying S) (log : List Entry) (s : ℕ) (m : Message) (l' : ℕ) → is_operation (turn P v.rank).did ≡ true → turn P (took v log s m).rank ≡ record { rank = (absorb l' (arrive (turn P v.rank).rank s m) log).rank; did = (turn P v.rank).did }
 took_turn P v log s m l' op = let e = turn_more P v.rank s m op in
     absorb_turn P v.left l' (arrive v.rank s m) log (ap (λ t. is_operation t.did) e ∙ op) ∙ ap (λ t. record { rank = (absorb l' t.rank log).rank; did = t.did }) e
 
-done_took : {S : Type 0} (P : Process S) (v : Restored S) (log : List Entry) (s : ℕ) (m : Message) → is_operation (turn P v.rank).did ≡ true → one_done P (took v log s m) ≡ took (one_done P v) log s m
+done_took : {S : Type 0} (P : Process S) (v : Replaying S) (log : List Entry) (s : ℕ) (m : Message) → is_operation (turn P v.rank).did ≡ true → one_done P (took v log s m) ≡ took (one_done P v) log s m
 done_took {S} P v log s m op = restored_path (turn P (took v log s m).rank).rank (absorb l' (arrive (turn P v.rank).rank s m) log).rank (took v log s m).log (absorb l' (arrive (turn P v.rank).rank s m) log).log
     (if is_operation (turn P (took v log s m).rank).did then pred (took v log s m).left else (took v log s m).left) (absorb l' (arrive (turn P v.rank).rank s m) log).left
     (ap (λ t. t.rank) e) (absorb_log v.left l' (arrive v.rank s m) (arrive (turn P v.rank).rank s m) log)
@@ -185,12 +185,12 @@ row_tail row skip (Sent to x) r m rest e = ⊎_elim skipped (λ f. ⊎_elim (her
     }
 
 -- A turn and a delivery, in either order.
-did_part : {S : Type 0} (P : Process S) (one : ℕ → Restored S) (y r : ℕ) (log : List Entry) (s : ℕ) (m : Message) → is_operation (turn P (one y).rank).did ≡ true → (turn P (set_at one r (took (one r) log s m) y).rank).did ≡ (turn P (one y).rank).did
+did_part : {S : Type 0} (P : Process S) (one : ℕ → Replaying S) (y r : ℕ) (log : List Entry) (s : ℕ) (m : Message) → is_operation (turn P (one y).rank).did ≡ true → (turn P (set_at one r (took (one r) log s m) y).rank).did ≡ (turn P (one y).rank).did
 did_part P one y r log s m op = at_set (λ v. (turn P v.rank).did ≡ (turn P (one y).rank).did) one r (took (one r) log s m) y
     (λ e. subst (λ z. (turn P (took (one r) log s m).rank).did ≡ (turn P (one z).rank).did) (sym e) (ap (λ t. t.did) (took_turn P (one r) log s m 0 (subst (λ z. is_operation (turn P (one z).rank).did ≡ true) e op))))
     (λ e. refl)
 
-one_part : {S : Type 0} (P : Process S) (one : ℕ → Restored S) (y r : ℕ) (log : List Entry) (s : ℕ) (m : Message) → is_operation (turn P (one y).rank).did ≡ true
+one_part : {S : Type 0} (P : Process S) (one : ℕ → Replaying S) (y r : ℕ) (log : List Entry) (s : ℕ) (m : Message) → is_operation (turn P (one y).rank).did ≡ true
     → set_at (set_at one r (took (one r) log s m)) y (one_done P (set_at one r (took (one r) log s m) y)) ≡ set_at (set_at one y (one_done P (one y))) r (took (set_at one y (one_done P (one y)) r) log s m)
 one_part {S} P one y r log s m op = ⊎_elim here there (cases_eq y r)
   where
@@ -253,7 +253,7 @@ turn_deliver {S} P b y s r log m rest op e = subst (λ t. Swapped P b t y s r lo
     w : RowSwapped b.channel (b.skip y) y s r d m rest
     w = row_swapped b.channel (b.skip y) y s r d m rest e
 
-    v : Restored S
+    v : Replaying S
     v = took (b.one r) log s m
 
     rows : Swapped P b (by_rows P b y (b.one y) (b.channel y) (b.skip y)) y s r log m rest
@@ -291,10 +291,10 @@ deliver_deliver {S} b t y s r g h m x k l e = back_path (set_at (set_at b.one y 
     (ap (λ z. set_at (set_at b.one y v) r (took z h s x)) (set_at-other b.one y v r (λ z. e (sym z))) ∙ set_comm b.one y r v w e ∙ sym (ap (λ z. set_at (set_at b.one r w) y (took z g t m)) (set_at-other b.one r w y e)))
     (pair_comm b.channel t y s r k l e) refl
   where
-    v : Restored S
+    v : Replaying S
     v = took (b.one y) g t m
 
-    w : Restored S
+    w : Replaying S
     w = took (b.one r) h s x
 
 -- What an event does where it has an effect.
@@ -306,7 +306,7 @@ may_left [] left h = refl
 may_left (x ∷ log) left h = lt-ltb 0 left h
 
 -- a delivery by the rank's log: to a restoring rank, or to a restored one
-abbrev pub Kind : {S : Type 0} → Restored S → ℕ → List Entry → Type 0
+abbrev pub Kind : {S : Type 0} → Replaying S → ℕ → List Entry → Type 0
 Kind v s log = (v.log ≡ Intra_entry s ∷ log) ⊎ ((v.log ≡ []) × (v.left ≡ 0) × (log ≡ []))
 
 pub next_deliver : {S : Type 0} (P : Process S) (n : ℕ) (b : Back S) (s r : ℕ) (log : List Entry) (m : Message) (rest : List Message) → s < n → r < n → Kind (b.one r) s log → b.channel s r ≡ m ∷ rest
@@ -388,7 +388,7 @@ keep_turn_turn {S} P n es b y r inside may op ih w plan = ⊎_elim here there (c
           ),
         )
 
-may_took : {S : Type 0} (v : Restored S) (log : List Entry) (s : ℕ) (m : Message) → 0 < v.left → may_turn (took v log s m).log (took v log s m).left ≡ true
+may_took : {S : Type 0} (v : Replaying S) (log : List Entry) (s : ℕ) (m : Message) → 0 < v.left → may_turn (took v log s m).log (took v log s m).left ≡ true
 may_took v log s m h = may_left (took v log s m).log (took v log s m).left (subst (λ k. 0 < k) (sym (absorb_left v.left (arrive v.rank s m) log)) h)
 
 may_restoring : (log : List Entry) (x : Entry) (rest : List Entry) (left : ℕ) → log ≡ x ∷ rest → may_turn log left ≡ true → 0 < left
@@ -406,7 +406,7 @@ keep_turn_deliver {S} P n es b t y r inside may op ih w plan = (
   ),
 )
   where
-    v : Restored S
+    v : Replaying S
     v = took (b.one y) w.log t w.message
 
     b1 : Back S
@@ -556,7 +556,7 @@ idle_turn {S} P b r idle = back_path (set_at b.one r v) b.one (back_channel b.ch
     d : Did
     d = (turn P (b.one r).rank).did
 
-    v : Restored S
+    v : Replaying S
     v = record (b.one r) { rank = (turn P (b.one r).rank).rank; left = if is_operation d then pred (b.one r).left else (b.one r).left }
 
     no_send : (d : Did) → is_operation d ≡ false → back_channel b.channel b.skip r d ≡ b.channel

@@ -10,7 +10,7 @@ use Rattle.core_laws.specs.Rows.{set_at, set_pair}
 use Rattle.core_laws.specs.Process.{Process, Rank, turn, arrive, is_operation}
 use Rattle.core_laws.specs.Quiet.{Quiet, Event, Turn, Deliver, Handle, Begin_wave}
 use Rattle.core_laws.specs.Line.{Logged, sends_to, intra_from}
-use Rattle.core_laws.specs.Replay.{Restored, absorb, Back, back_channel, back_skip, back_turn, back_arrives, back_next, back_run, Lags, PairLags}
+use Rattle.core_laws.specs.Replay.{Replaying, absorb, Back, back_channel, back_skip, back_turn, back_arrives, back_next, back_run, Lags, PairLags}
 use Rattle.core_laws.specs.Plan.{IsDone, Turn_helps, Delivery_helps, Plan, HasPlan}
 use Rattle.core_laws.proofs.Changes.{at_set, set_at-same, set_at-other}
 use Rattle.core_laws.proofs.Operations.{turn_more}
@@ -69,25 +69,25 @@ done_skip {S} P n b v done h s r a c = omega (arith, pairs.enough)
     pairs = subst (λ d. PairLags (b.channel s r) (sends_to r d.sends) (b.skip s r) (intra_from s (h.since r)) (v.channel s r)) (replay_none P (b.one s) (h.since s) (done s a).1 (empty s a)) (h.lags.pairs s r a c)
 
 -- A change at the end of one rank's replay.
-record EndTurn {S : Type 0} (P : Process S) (E : Restored S → Restored S) (v : Restored S) : Type 0 where
+record EndTurn {S : Type 0} (P : Process S) (E : Replaying S → Replaying S) (v : Replaying S) : Type 0 where
   did : (turn P (E v).rank).did ≡ (turn P v.rank).did
   ops : ℕ
   left : (E v).left ≡ suc ops
   same : one_done P (E v) ≡ E (one_done P v)
 
-record EndTake {S : Type 0} (E : Restored S → Restored S) (v : Restored S) (s : ℕ) (log : List Entry) (m : Message) : Type 0 where
+record EndTake {S : Type 0} (E : Replaying S → Replaying S) (v : Replaying S) (s : ℕ) (log : List Entry) (m : Message) : Type 0 where
   after : List Entry
   names : (E v).log ≡ Intra_entry s ∷ after
   same : took (E v) after s m ≡ E (took v log s m)
 
-record IsEnd {S : Type 0} (P : Process S) (E : Restored S → Restored S) : Type 0 where
-  turns : (v : Restored S) (j : ℕ) → v.left ≡ suc j → is_operation (turn P v.rank).did ≡ true → EndTurn P E v
-  takes : (v : Restored S) (s : ℕ) (log : List Entry) (m : Message) → v.log ≡ Intra_entry s ∷ log → EndTake E v s log m
+record IsEnd {S : Type 0} (P : Process S) (E : Replaying S → Replaying S) : Type 0 where
+  turns : (v : Replaying S) (j : ℕ) → v.left ≡ suc j → is_operation (turn P v.rank).did ≡ true → EndTurn P E v
+  takes : (v : Replaying S) (s : ℕ) (log : List Entry) (m : Message) → v.log ≡ Intra_entry s ∷ log → EndTake E v s log m
 
-abbrev extended : {S : Type 0} → (Restored S → Restored S) → ℕ → Back S → Back S
+abbrev extended : {S : Type 0} → (Replaying S → Replaying S) → ℕ → Back S → Back S
 extended E r b = record b { one = set_at b.one r (E (b.one r)) }
 
-end_turn : {S : Type 0} (P : Process S) (E : Restored S → Restored S) → IsEnd P E → (r : ℕ) (b : Back S) (y j : ℕ) → (b.one y).left ≡ suc j → is_operation (turn P (b.one y).rank).did ≡ true
+end_turn : {S : Type 0} (P : Process S) (E : Replaying S → Replaying S) → IsEnd P E → (r : ℕ) (b : Back S) (y j : ℕ) → (b.one y).left ≡ suc j → is_operation (turn P (b.one y).rank).did ≡ true
     → (back_turn P (extended E r b) y ≡ extended E r (back_turn P b y)) × (is_operation (turn P ((extended E r b).one y).rank).did ≡ true) × ((k : ℕ) × (((extended E r b).one y).left ≡ suc k))
 end_turn {S} P E end r b y j left op = ⊎_elim here there (cases_eq y r)
   where
@@ -116,7 +116,7 @@ end_turn {S} P E end r b y j left op = ⊎_elim here there (cases_eq y r)
       (j, ap (λ v. v.left) x ∙ left),
     )
 
-end_take : {S : Type 0} (P : Process S) (E : Restored S → Restored S) → IsEnd P E → (r : ℕ) (b : Back S) (s y : ℕ) (log : List Entry) (m : Message) (rest : List Message) → (b.one y).log ≡ Intra_entry s ∷ log
+end_take : {S : Type 0} (P : Process S) (E : Replaying S → Replaying S) → IsEnd P E → (r : ℕ) (b : Back S) (s y : ℕ) (log : List Entry) (m : Message) (rest : List Message) → (b.one y).log ≡ Intra_entry s ∷ log
     → (after : List Entry) × (((extended E r b).one y).log ≡ Intra_entry s ∷ after) × (back_arrives (extended E r b) s y (took ((extended E r b).one y) after s m) m rest ≡ extended E r (back_arrives b s y (took (b.one y) log s m) m rest))
 end_take {S} P E end r b s y log m rest names = ⊎_elim here there (cases_eq y r)
   where
@@ -145,7 +145,7 @@ end_take {S} P E end r b s y log m rest names = ⊎_elim here there (cases_eq y 
     )
 
 -- the same plan goes on in the extended state, up to the plan's end
-extend_plan : {S : Type 0} (P : Process S) (n : ℕ) (E : Restored S → Restored S) → IsEnd P E → (r : ℕ) (es : List Event) (b : Back S) → Plan P n b es → HasPlan P n (extended E r (back_run P n b es)) → HasPlan P n (extended E r b)
+extend_plan : {S : Type 0} (P : Process S) (n : ℕ) (E : Replaying S → Replaying S) → IsEnd P E → (r : ℕ) (es : List Event) (b : Back S) → Plan P n b es → HasPlan P n (extended E r (back_run P n b es)) → HasPlan P n (extended E r b)
 extend_plan P n E end r [] b h finish = finish
 extend_plan P n E end r (Handle x y ∷ es) b h finish = absurd (no_handle P n b x y h.0)
 extend_plan P n E end r (Begin_wave ∷ es) b h finish = absurd (no_wave P n b h.0)
@@ -171,7 +171,7 @@ extend_plan P n E end r (Deliver s y ∷ es) b h finish =
     )
 
 -- One operation more.
-abbrev pub end_op : {S : Type 0} → Restored S → Restored S
+abbrev pub end_op : {S : Type 0} → Replaying S → Replaying S
 end_op v = record v { left = suc v.left }
 
 pub absorb_more : {S : Type 0} (l : ℕ) (k : Rank S) (log : List Entry) → absorb (suc l) k log ≡ end_op (absorb l k log)
@@ -192,7 +192,7 @@ is_end_op P = record {
 }
 
 -- An intra arrival more.
-abbrev pub end_intra : {S : Type 0} → ℕ → Restored S → Restored S
+abbrev pub end_intra : {S : Type 0} → ℕ → Replaying S → Replaying S
 end_intra a v = record v { log = v.log ++ Intra_entry a ∷ [] }
 
 pub absorb_intra : {S : Type 0} (a l : ℕ) (k : Rank S) (log : List Entry) → absorb l k (log ++ Intra_entry a ∷ []) ≡ end_intra a (absorb l k log)
@@ -207,11 +207,11 @@ is_end_intra P a = record {
 }
 
 -- A late arrival more.
-abbrev pub late_end : {S : Type 0} → ℕ → Message → Restored S → List Entry → Restored S
+abbrev pub late_end : {S : Type 0} → ℕ → Message → Replaying S → List Entry → Replaying S
 late_end a x v [] = record v { rank = arrive v.rank a x }
 late_end a x v (e ∷ l) = record v { log = (e ∷ l) ++ Late_entry a x ∷ [] }
 
-abbrev pub end_late : {S : Type 0} → ℕ → Message → Restored S → Restored S
+abbrev pub end_late : {S : Type 0} → ℕ → Message → Replaying S → Replaying S
 end_late a x v = late_end a x v v.log
 
 pub absorb_late : {S : Type 0} (a : ℕ) (x : Message) (l : ℕ) (k : Rank S) (log : List Entry) → absorb l k (log ++ Late_entry a x ∷ []) ≡ end_late a x (absorb l k log)

@@ -3,7 +3,7 @@ use Rattle.std.proofs.Common.{◌≡◌, ℕ, zero, suc, pred, ◌<◌, ◌≤�
 use Rattle.std.specs.Prelude.{◌&&◌, ◌==◌, nat_lt}
 use Rattle.std.proofs.lemmas.Bool.{cond_both, and_right, and_parts, cases_eq, ltb-true, false≢true, true≢false}
 use Rattle.mpi_words.specs.declared.control.Control.{Control}
-use Rattle.mpi_words.specs.declared.control.Control.TheVariants.{Request, Count, Ready, Stop, Stopped, Restored as Restored_now}
+use Rattle.mpi_words.specs.declared.control.Control.TheVariants.{Request, Count, Ready, Stop, Stopped, Restored}
 use Rattle.core_laws.specs.Rows.{set_at, set_pair}
 use Rattle.core_laws.specs.Protocol.{Packet, Layer, Wave, Protocol, Class, Late, Intra, Early, class_of, layer_arrive, layer_send, layer_save, move_send, move_skip, move_save, move_arrive, move_ready, move_stop, move_pop, move_told, move_note_ready, move_note_stopped, move_tell_stop, move_commit, move_tell_restored, restarted}
 use Rattle.core_laws.specs.Process.{Ranks, Did, Nothing, Sent, Local, Marked}
@@ -71,7 +71,7 @@ due_handles n p s r (Stop l ∷ rest) h = cond_both (p.layer r).logging (move_st
     (λ e. due_set n p.layer r (record (p.layer r) { logging = false }) (λ b. refl) (λ x b d. h x b))
     (λ e. h)
 due_handles n p s r (Stopped l ∷ rest) h = let p' = move_note_stopped p s r rest in cond_both (all_below n p'.wave.stopped) (move_commit p') p' (λ (q : Protocol). NoneDue n q.layer) (λ e. h) (λ e. h)
-due_handles n p s r (Restored_now ∷ rest) h = h
+due_handles n p s r (Restored ∷ rest) h = h
 
 -- Rank 0 has answered what it noted.
 pub record Answers (n : ℕ) (w : Wave) : Type 0 where
@@ -108,7 +108,7 @@ answers_handles n p s r (Stop l ∷ rest) some h = cond_both (p.layer r).logging
 answers_handles n p s r (Stopped l ∷ rest) some h = let p' = move_note_stopped p s r rest in cond_both (all_below n p'.wave.stopped) (move_commit p') p' (λ (q : Protocol). Answers n q.wave)
     (λ e. record { noted = λ d. absurd (false≢true (sym (none_below n some) ∙ d)); stopped = none_below n some })
     (λ e. record { noted = h.noted; stopped = e })
-answers_handles n p s r (Restored_now ∷ rest) some h = h
+answers_handles n p s r (Restored ∷ rest) some h = h
 
 -- Stop was told, and a rank logs yet: a Stop is on its channel.
 abbrev HasStop : ℕ → Bool → (ℕ → Layer) → (ℕ → ℕ → List Control) → Type 0
@@ -181,7 +181,7 @@ stops_handles n p s r (Stop l ∷ rest) is k h = cond_both (p.layer r).logging (
 stops_handles n p s r (Stopped l ∷ rest) is k h = let p' = move_note_stopped p s r rest in cond_both (all_below n p'.wave.stopped) (move_commit p') p' (Stops n)
     (λ e t. absurd (false≢true t))
     (λ e. stop_pop n p.wave.stop_told p.layer p.control s r (Stopped l) rest is refl h)
-stops_handles n p s r (Restored_now ∷ rest) is k h = stop_pop n p.wave.stop_told p.layer p.control s r Restored_now rest is refl h
+stops_handles n p s r (Restored ∷ rest) is k h = stop_pop n p.wave.stop_told p.layer p.control s r Restored rest is refl h
 
 -- All of it.
 from_parts : (n : ℕ) (p : Protocol) → NoneDue n p.layer → Answers n p.wave → Stops n p → Prompt n p
@@ -193,7 +193,7 @@ answers_of n p h = record { noted = h.noted; stopped = h.stopped }
 -- it ceases to restore
 prompt_restored : (n : ℕ) (was now : Bool) (p : Protocol) (r : ℕ) → Prompt n p → Prompt n (then_restored was now p r)
 prompt_restored n was now p r h = cond_both (not was && now) (move_tell_restored p r) p (Prompt n)
-    (λ e. record { due = h.due; noted = h.noted; stop = stop_push_pair n p.wave.stop_told p.layer p.control r 0 Restored_now h.stop; stopped = h.stopped })
+    (λ e. record { due = h.due; noted = h.noted; stop = stop_push_pair n p.wave.stop_told p.layer p.control r 0 Restored h.stop; stopped = h.stopped })
     (λ e. h)
 
 prompt_delivers : {S : Type 0} (n : ℕ) (c : Core S) (s r : ℕ) (q : List Packet) → Prompt n c.protocol → Prompt n (core_delivers n c s r q).protocol

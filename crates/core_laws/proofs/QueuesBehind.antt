@@ -3,7 +3,7 @@ use Rattle.std.proofs.Common.{◌≡◌, ℕ, zero, suc, ◌+◌, ◌<◌, ◌�
 use Rattle.std.specs.Prelude.{length}
 use Rattle.std.proofs.lemmas.Bool.{ne_eqb}
 use Rattle.mpi_words.specs.declared.control.Control.{Control}
-use Rattle.mpi_words.specs.declared.control.Control.TheVariants.{Request, Count, Ready, Stop, Stopped, Restored as Restored_now}
+use Rattle.mpi_words.specs.declared.control.Control.TheVariants.{Request, Count, Ready, Stop, Stopped, Restored}
 use Rattle.core_laws.specs.Rows.{set_at, set_pair}
 use Rattle.core_laws.specs.Protocol.{Packet}
 use Rattle.core_laws.specs.Invariant.{bit, on_channel, counts_on, readies_on, stoppeds_on}
@@ -35,7 +35,7 @@ counts-behind (Count l k ∷ c) = omega (arith, counts-behind c)
 counts-behind (Ready l ∷ c) = omega (arith, counts-behind c)
 counts-behind (Stop l ∷ c) = omega (arith, counts-behind c)
 counts-behind (Stopped l ∷ c) = omega (arith, counts-behind c)
-counts-behind (Restored_now ∷ c) = omega (arith, counts-behind c)
+counts-behind (Restored ∷ c) = omega (arith, counts-behind c)
 
 pub readies-behind : (c : List Control) → behind (kind 1) 0 c ≡ readies_on c
 readies-behind [] = refl
@@ -44,7 +44,7 @@ readies-behind (Count l k ∷ c) = omega (arith, readies-behind c)
 readies-behind (Ready l ∷ c) = omega (arith, readies-behind c)
 readies-behind (Stop l ∷ c) = omega (arith, readies-behind c)
 readies-behind (Stopped l ∷ c) = omega (arith, readies-behind c)
-readies-behind (Restored_now ∷ c) = omega (arith, readies-behind c)
+readies-behind (Restored ∷ c) = omega (arith, readies-behind c)
 
 pub stoppeds-behind : (c : List Control) → behind (kind 3) 0 c ≡ stoppeds_on c
 stoppeds-behind [] = refl
@@ -53,7 +53,7 @@ stoppeds-behind (Count l k ∷ c) = omega (arith, stoppeds-behind c)
 stoppeds-behind (Ready l ∷ c) = omega (arith, stoppeds-behind c)
 stoppeds-behind (Stop l ∷ c) = omega (arith, stoppeds-behind c)
 stoppeds-behind (Stopped l ∷ c) = omega (arith, stoppeds-behind c)
-stoppeds-behind (Restored_now ∷ c) = omega (arith, stoppeds-behind c)
+stoppeds-behind (Restored ∷ c) = omega (arith, stoppeds-behind c)
 
 pub packets-behind : (e : ℕ) (q : List Packet) → behind (of_epoch e) 0 q ≡ on_channel e q
 packets-behind e [] = refl

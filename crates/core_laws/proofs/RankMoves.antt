@@ -3,7 +3,7 @@ use Rattle.std.proofs.Common.{◌≡◌, ℕ, suc, ◌≤◌, Bool, true, false,
 use Rattle.std.specs.Prelude.{◌&&◌, ◌==◌}
 use Rattle.std.proofs.lemmas.Bool.{eqb-true, eq-eqb, ne_eqb, and_parts, and_from, and_left, and_right, cases_lt, not-true, false≢true, true≢false}
 use Rattle.mpi_words.specs.declared.control.Control.{Control}
-use Rattle.mpi_words.specs.declared.control.Control.TheVariants.{Request, Count, Ready, Stop, Stopped, Restored as Restored_now}
+use Rattle.mpi_words.specs.declared.control.Control.TheVariants.{Request, Count, Ready, Stop, Stopped, Restored}
 use Rattle.core_laws.proofs.ManyControls.{many-push, many-first}
 use Rattle.core_laws.specs.Invariant.{RankKept, DownKept, UpKept, requests_on, readies_on, stoppeds_on, Timely, bit}
 
@@ -14,7 +14,7 @@ Harmless all_ready (Request l) = Unit {0}
 Harmless all_ready (Count l k) = Unit {0}
 Harmless all_ready (Ready l) = Unit {0}
 Harmless all_ready (Stopped l) = Unit {0}
-Harmless all_ready Restored_now = Unit {0}
+Harmless all_ready Restored = Unit {0}
 
 timely_one : (all_ready asked : Bool) (x : Control) → Harmless all_ready x → Timely all_ready asked (x ∷ [])
 timely_one all_ready asked (Request l) e = tt
@@ -23,7 +23,7 @@ timely_one all_ready false (Stop l) e = tt
 timely_one all_ready asked (Count l k) e = tt
 timely_one all_ready asked (Ready l) e = tt
 timely_one all_ready asked (Stopped l) e = tt
-timely_one all_ready asked Restored_now e = tt
+timely_one all_ready asked Restored e = tt
 
 pub timely-push : (all_ready asked : Bool) (c : List Control) (x : Control) → Harmless all_ready x → Timely all_ready asked c → Timely all_ready asked (c ++ x ∷ [])
 timely-push all_ready asked [] x e h = timely_one all_ready asked x e
@@ -33,7 +33,7 @@ timely-push all_ready false (Stop l ∷ c) x e h = timely-push all_ready false c
 timely-push all_ready asked (Count l k ∷ c) x e h = timely-push all_ready asked c x e h
 timely-push all_ready asked (Ready l ∷ c) x e h = timely-push all_ready asked c x e h
 timely-push all_ready asked (Stopped l ∷ c) x e h = timely-push all_ready asked c x e h
-timely-push all_ready asked (Restored_now ∷ c) x e h = timely-push all_ready asked c x e h
+timely-push all_ready asked (Restored ∷ c) x e h = timely-push all_ready asked c x e h
 
 -- With no Request there is nothing to come in time for.
 timely_unasked : (all_ready : Bool) (c : List Control) → requests_on c ≡ 0 → Timely all_ready false c
@@ -43,7 +43,7 @@ timely_unasked all_ready (Stop l ∷ c) e = timely_unasked all_ready c e
 timely_unasked all_ready (Count l k ∷ c) e = timely_unasked all_ready c e
 timely_unasked all_ready (Ready l ∷ c) e = timely_unasked all_ready c e
 timely_unasked all_ready (Stopped l ∷ c) e = timely_unasked all_ready c e
-timely_unasked all_ready (Restored_now ∷ c) e = timely_unasked all_ready c e
+timely_unasked all_ready (Restored ∷ c) e = timely_unasked all_ready c e
 
 -- When all were ready every Stop comes in time.
 timely_ready : (asked : Bool) (c : List Control) → Timely true asked c
@@ -54,7 +54,7 @@ timely_ready false (Stop l ∷ c) = timely_ready false c
 timely_ready asked (Count l k ∷ c) = timely_ready asked c
 timely_ready asked (Ready l ∷ c) = timely_ready asked c
 timely_ready asked (Stopped l ∷ c) = timely_ready asked c
-timely_ready asked (Restored_now ∷ c) = timely_ready asked c
+timely_ready asked (Restored ∷ c) = timely_ready asked c
 
 timely_less : (all_ready : Bool) (c : List Control) → Timely all_ready true c → Timely all_ready false c
 timely_less all_ready [] h = tt
@@ -63,7 +63,7 @@ timely_less all_ready (Stop l ∷ c) h = timely_less all_ready c h.1
 timely_less all_ready (Count l k ∷ c) h = timely_less all_ready c h
 timely_less all_ready (Ready l ∷ c) h = timely_less all_ready c h
 timely_less all_ready (Stopped l ∷ c) h = timely_less all_ready c h
-timely_less all_ready (Restored_now ∷ c) h = timely_less all_ready c h
+timely_less all_ready (Restored ∷ c) h = timely_less all_ready c h
 
 -- A push.
 pub down_push : (L : ℕ) (way told : Bool) (epoch : ℕ) (asked : Bool) (c : List Control) (x : Control) → Harmless told x → requests_on (x ∷ []) ≡ 0 → DownKept L way told epoch asked c → DownKept L way told epoch asked (c ++ x ∷ [])
@@ -145,7 +145,7 @@ down_pop L way told epoch asked x c none h = record { request = omega (arith, h.
     rest (Ready l) e = refl
     rest (Stop l) e = refl
     rest (Stopped l) e = refl
-    rest Restored_now e = refl
+    rest Restored e = refl
 
     after : (b : Bool) (x : Control) → requests_on (x ∷ []) ≡ 0 → Timely told b (x ∷ c) → Timely told b c
     after b (Request l) e t = absurd (omega arith)
@@ -154,7 +154,7 @@ down_pop L way told epoch asked x c none h = record { request = omega (arith, h.
     after true (Stop l) e t = t.1
     after false (Stop l) e t = t
     after b (Stopped l) e t = t
-    after b Restored_now e t = t
+    after b Restored e t = t
 
 -- a rank that meets a Stop, asked or in its save's epoch, meets it when all were ready
 pub down_stop : (L : ℕ) (way told : Bool) (epoch l : ℕ) (asked : Bool) (c : List Control) → DownKept L way told epoch asked (Stop l ∷ c) → epoch ≡ suc L → told ≡ true

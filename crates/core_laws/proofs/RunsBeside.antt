@@ -11,7 +11,7 @@ use Rattle.core_laws.specs.Process.{Process, Did, Nothing, Sent, Local, Marked, 
 use Rattle.core_laws.specs.Quiet.{Quiet, Turn, Deliver, sends, quiet_turn, IsReached_of}
 use Rattle.core_laws.specs.Stopping.{contents}
 use Rattle.core_laws.specs.Line.{Logged}
-use Rattle.core_laws.specs.Replay.{Restored, absorb, entries, back_turn, back_arrives, may_turn, Lags}
+use Rattle.core_laws.specs.Replay.{Replaying, absorb, entries, back_turn, back_arrives, may_turn, Lags}
 use Rattle.core_laws.specs.Core.{Core, is_back, restores, one_turned, core_turned, accepts, landed, core_arrived, back_of}
 use Rattle.core_laws.specs.Pausing.{Stepping, step_turn, stepping, without_pauses}
 use Rattle.core_laws.specs.PausingKept.{IsBeside}
@@ -40,7 +40,7 @@ takes_entry [] (suc left) s ok e = absurd (false≢true ok)
 takes_entry (Late_entry a m ∷ log) left s ok e = absurd (false≢true ok)
 takes_entry (Intra_entry a ∷ log) left s ok e = (log, ap (λ z. Intra_entry z ∷ log) (eqb-true a s ok))
 
-landed_same : {S : Type 0} (o v : Restored S) (log : List Entry) (s : ℕ) (m : Message) → v.rank ≡ o.rank → v.left ≡ o.left → (landed v log s m).rank ≡ (landed o log s m).rank
+landed_same : {S : Type 0} (o v : Replaying S) (log : List Entry) (s : ℕ) (m : Message) → v.rank ≡ o.rank → v.left ≡ o.left → (landed v log s m).rank ≡ (landed o log s m).rank
 landed_same o v [] s m e f = ap (λ k. arrive k s m) e
 landed_same o v (x ∷ log) s m e f = ap (λ k. (absorb v.left (arrive k s m) log).rank) e ∙ ap (λ j. (absorb j (arrive o.rank s m) log).rank) f
 
@@ -55,14 +55,14 @@ reached_turn : {S : Type 0} (P : Stepping S) (n : ℕ) (q : Quiet S) (r : ℕ) �
 reached_turn P n q r a h = subst (IsReached_of (stepping P) n) (cond-true (nat_lt r n) (quiet_turn q r (step_turn P (q.rank r))) q (lt-ltb r n a)) (reached_run (stepping P) n q (Turn r ∷ []) h)
 
 -- Local steps.
-pub beside_idle : {S : Type 0} (P : Stepping S) (n b : ℕ) (a : Core S) (o : ℕ → Restored S) (r : ℕ) → r < n → may_turn (a.one r).log (a.one r).left ≡ true → (step_turn P (o r).rank).did ≡ Nothing → IsBeside P n b a o → IsBeside P n b a (set_at o r (one_turned (o r) (step_turn P (o r).rank)))
+pub beside_idle : {S : Type 0} (P : Stepping S) (n b : ℕ) (a : Core S) (o : ℕ → Replaying S) (r : ℕ) → r < n → may_turn (a.one r).log (a.one r).left ≡ true → (step_turn P (o r).rank).did ≡ Nothing → IsBeside P n b a o → IsBeside P n b a (set_at o r (one_turned (o r) (step_turn P (o r).rank)))
 beside_idle {S} P n b a o r inside may none h = ⊎_elim runs restores_yet (cases_Bool (is_back (a.one r)))
   where
     not_r : (x : ℕ) (c : Bool) → is_back (a.one r) ≡ c → is_back (a.one x) ≡ not c → x ≡ r → ⊥
     not_r x true e f g = true≢false (sym e ∙ ap (λ z. is_back (a.one z)) (sym g) ∙ f)
     not_r x false e f g = false≢true (sym e ∙ ap (λ z. is_back (a.one z)) (sym g) ∙ f)
 
-    v : Restored S
+    v : Replaying S
     v = one_turned (o r) (step_turn P (o r).rank)
 
     runs : is_back (a.one r) ≡ true → IsBeside P n b a (set_at o r v)
@@ -92,14 +92,14 @@ beside_idle {S} P n b a o r inside may none h = ⊎_elim runs restores_yet (case
     }
 
 -- An operation.
-pub beside_op : {S : Type 0} (P : Stepping S) (n b : ℕ) (a : Core S) (o : ℕ → Restored S) (r : ℕ) (t : Turned S) → r < n → may_turn (a.one r).log (a.one r).left ≡ true → step_turn P (o r).rank ≡ t → turn (without_pauses b P) (a.one r).rank ≡ t → is_operation t.did ≡ true
+pub beside_op : {S : Type 0} (P : Stepping S) (n b : ℕ) (a : Core S) (o : ℕ → Replaying S) (r : ℕ) (t : Turned S) → r < n → may_turn (a.one r).log (a.one r).left ≡ true → step_turn P (o r).rank ≡ t → turn (without_pauses b P) (a.one r).rank ≡ t → is_operation t.did ≡ true
     → IsBeside P n b a o → IsBeside P n b (core_turned n a r t) (set_at o r (one_turned (o r) t))
 beside_op {S} P n b a o r t inside may mine other op h = ⊎_elim runs restores_yet (cases_Bool (is_back (a.one r)))
   where
     p : Process S
     p = without_pauses b P
 
-    u : Restored S
+    u : Replaying S
     u = one_turned (a.one r) t
 
     a' : Core S
@@ -150,7 +150,7 @@ beside_op {S} P n b a o r t inside may mine other op h = ⊎_elim runs restores_
         lags = subst (λ k. Lags p n k h.ahead h.since) along (lag_restoring p n (back_of a) h.ahead h.since r left.0 inside left.1 (ap (λ z. is_operation z.did) other ∙ op) h.lags)
 
 -- An arrival.
-pub beside_arrival : {S : Type 0} (P : Stepping S) (n b : ℕ) (a : Core S) (o : ℕ → Restored S) (s r : ℕ) (x : Packet) (rest : List Packet) → s < n → r < n → accepts (a.one r).log (a.one r).left s ≡ true → a.protocol.channel s r ≡ x ∷ rest → (o r).log ≡ (a.one r).log → (o r).left ≡ (a.one r).left
+pub beside_arrival : {S : Type 0} (P : Stepping S) (n b : ℕ) (a : Core S) (o : ℕ → Replaying S) (s r : ℕ) (x : Packet) (rest : List Packet) → s < n → r < n → accepts (a.one r).log (a.one r).left s ≡ true → a.protocol.channel s r ≡ x ∷ rest → (o r).log ≡ (a.one r).log → (o r).left ≡ (a.one r).left
     → IsBeside P n b a o → IsBeside P n b (core_arrived n a s r (landed (a.one r) (a.one r).log s x.0) x rest) (set_at o r (landed (o r) (o r).log s x.0))
 beside_arrival {S} P n b a o s r x rest from inside ok has logs lefts h = ⊎_elim runs restores_yet (cases_Bool (is_back (a.one r)))
   where
@@ -160,10 +160,10 @@ beside_arrival {S} P n b a o s r x rest from inside ok has logs lefts h = ⊎_el
     m : Message
     m = x.0
 
-    u : Restored S
+    u : Replaying S
     u = landed (a.one r) (a.one r).log s m
 
-    v : Restored S
+    v : Replaying S
     v = landed (o r) (o r).log s m
 
     a' : Core S
@@ -233,7 +233,7 @@ beside_arrival {S} P n b a o s r x rest from inside ok has logs lefts h = ⊎_el
         exact l = ap (λ k. (landed (o r) k s m).rank) logs ∙ landed_same (a.one r) (o r) (a.one r).log s m (h.still r inside (sym (absorb_left (a.one r).left (arrive (a.one r).rank s m) entry.0) ∙ ap (λ k. (landed (a.one r) k s m).left) (sym entry.1) ∙ l) e) lefts
 
 -- The same ranks, channels and skips.
-pub beside_same : {S : Type 0} (P : Stepping S) (n b : ℕ) (a a' : Core S) (o : ℕ → Restored S) → a'.one ≡ a.one → back_of a' ≡ back_of a → IsBeside P n b a o → IsBeside P n b a' o
+pub beside_same : {S : Type 0} (P : Stepping S) (n b : ℕ) (a a' : Core S) (o : ℕ → Replaying S) → a'.one ≡ a.one → back_of a' ≡ back_of a → IsBeside P n b a o → IsBeside P n b a' o
 beside_same P n b a a' o one same h = record {
   live = h.live;
   reached = h.reached;

@@ -3,13 +3,13 @@ use Rattle.std.proofs.Common.{◌≡◌, ℕ, suc, ◌<◌, ◌≤◌, Bool, tru
 use Rattle.std.specs.Prelude.{◌&&◌, ◌==◌, nat_lt}
 use Rattle.std.proofs.lemmas.Bool.{cond_both, and_parts, and_from, not-true, not_from_false, ltb-true, lt-ltb, true≢false}
 use Rattle.mpi_words.specs.declared.control.Control.{Control}
-use Rattle.mpi_words.specs.declared.control.Control.TheVariants.{Request, Count, Ready, Stop, Stopped, Restored as Restored_now}
+use Rattle.mpi_words.specs.declared.control.Control.TheVariants.{Request, Count, Ready, Stop, Stopped, Restored}
 use Rattle.core_laws.specs.Rows.{set_at, set_pair}
 use Rattle.core_laws.specs.Protocol.{Packet, Layer, Wave, Protocol, Class, Late, Intra, Early, class_of, layer_arrive, layer_send, move_send, move_skip, move_save, move_arrive, move_ready, move_stop, move_pop, move_told, move_note_ready, move_note_stopped, move_tell_stop, move_commit, move_tell_restored}
 use Rattle.core_laws.specs.Process.{Ranks, Did, Nothing, Sent, Local, Marked}
 use Rattle.core_laws.specs.Quiet.{Event, Turn, Deliver, Handle, Begin_wave}
 use Rattle.core_laws.specs.Handling.{handles, then_ready, then_stop, ready_due, is_told, stops_at, all_below, protocol_after}
-use Rattle.core_laws.specs.Replay.{Restored, may_turn}
+use Rattle.core_laws.specs.Replay.{Replaying, may_turn}
 use Rattle.core_laws.specs.Core.{Core, step_of, steps_of, is_back, then_restored, one_turned, landed, core_turned, core_delivers, core_handled, core_began, accepts, may_begin, last_line}
 use Rattle.core_laws.specs.Kept.{Tells}
 use Rattle.core_laws.specs.Invariant.{Kept, UpKept, up_kept, Invariant}
@@ -145,13 +145,13 @@ track_handles n i L k d p s r (Stopped l ∷ rest) a b is inv h = let p' = move_
     cond_both (all_below n p'.wave.stopped) (move_commit p') p' (Tracked n i L k d)
     (λ e. Over (omega (arith, h.wave.line)))
     (λ e. Goes_on (record { wave = in_wave n i L p.layer p.wave p'.wave refl refl (λ t. t) h.wave; controls = popped.controls; packets = popped.packets }))
-track_handles n i L k d p s r (Restored_now ∷ rest) a b is inv h = let popped = track_pop n i L k d p s r Restored_now rest is h in Goes_on (record { wave = popped.wave; controls = popped.controls; packets = popped.packets })
+track_handles n i L k d p s r (Restored ∷ rest) a b is inv h = let popped = track_pop n i L k d p s r Restored rest is h in Goes_on (record { wave = popped.wave; controls = popped.controls; packets = popped.packets })
 
 -- In a wave no rank restores: where none is killed each event is to be taken.
 pub back_in_wave : {S : Type 0} (n : ℕ) (c : Core S) → Tells n c.one c.protocol → c.protocol.wave.under_way ≡ true → (r : ℕ) → r < n → is_back (c.one r) ≡ true
 back_in_wave n c h way r b = noted_back n c.one c.protocol r b h (h.wave way r b)
 
-accepts_back : {S : Type 0} (v : Restored S) (s : ℕ) → is_back v ≡ true → accepts v.log v.left s ≡ true
+accepts_back : {S : Type 0} (v : Replaying S) (s : ℕ) → is_back v ≡ true → accepts v.log v.left s ≡ true
 accepts_back v s e = let both = back_is v e in subst (λ l. accepts l v.left s ≡ true) (sym both.0) (subst (λ k. accepts [] k s ≡ true) (sym both.1) refl)
 
 takes_handle : (n s r : ℕ) (killed : Bool) → s < n → r < n → killed ≡ false → (nat_lt s n && (nat_lt r n && not killed)) ≡ true
@@ -221,7 +221,7 @@ line_handles n p s r (Count l k ∷ rest) = same_line p.wave (then_ready n (move
 line_handles n p s r (Ready l ∷ rest) = let p' = move_note_ready p s r rest in cond_both (all_below n p'.wave.ready) (move_tell_stop p') p' (λ (q : Protocol). Rises p.wave q.wave) (λ e. (omega arith, omega arith)) (λ e. (omega arith, omega arith))
 line_handles n p s r (Stop l ∷ rest) = cond_both (p.layer r).logging (move_stop (move_pop p s r rest) r) (move_pop p s r rest) (λ (q : Protocol). Rises p.wave q.wave) (λ e. (omega arith, omega arith)) (λ e. (omega arith, omega arith))
 line_handles n p s r (Stopped l ∷ rest) = let p' = move_note_stopped p s r rest in cond_both (all_below n p'.wave.stopped) (move_commit p') p' (λ (q : Protocol). Rises p.wave q.wave) (λ e. (omega arith, omega arith)) (λ e. (omega arith, omega arith))
-line_handles n p s r (Restored_now ∷ rest) = (omega arith, omega arith)
+line_handles n p s r (Restored ∷ rest) = (omega arith, omega arith)
 
 pub restored_line : (was now : Bool) (p : Protocol) (r : ℕ) → (then_restored was now p r).wave ≡ p.wave
 restored_line was now p r = cond_both (not was && now) (move_tell_restored p r) p (λ (q : Protocol). q.wave ≡ p.wave) (λ e. refl) (λ e. refl)

@@ -5,7 +5,7 @@ use Rattle.std.specs.List.{AllByRecursion}
 use Rattle.std.proofs.lemmas.Bool.{cond_both, cond-true, cond-false, cases_Bool, and_parts, and_from, and_left, not-true, ltb-true, eqb-true, eqb-false, eq-eqb, ne_eqb, cases_lt, cases_eq, cases_order, false≢true, true≢false, lt-ltb}
 use Rattle.late_logs.specs.declared.entry.Entry.TheVariants.{Late as Late_entry, Intra as Intra_entry}
 use Rattle.mpi_words.specs.declared.control.Control.{Control}
-use Rattle.mpi_words.specs.declared.control.Control.TheVariants.{Request, Count, Ready, Stop, Stopped, Restored as Restored_now}
+use Rattle.mpi_words.specs.declared.control.Control.TheVariants.{Request, Count, Ready, Stop, Stopped, Restored}
 use Rattle.mpi_words.specs.declared.message.Message.{Message}
 use Rattle.core_laws.specs.Rows.{set_at, set_pair}
 use Rattle.core_laws.specs.Protocol.{Packet, Layer, Protocol, Class, Late, Intra, Early, layer_arrive, layer_send, layer_save, class_of, move_send, move_save, move_arrive, move_ready, move_stop, move_pop, move_told, move_note_ready, move_note_stopped, move_tell_stop, move_commit, move_skip, move_note_restored, early_more, is_late}
@@ -100,7 +100,7 @@ calm_handles n p s r (Stop l ∷ rest) = cond_both (p.layer r).logging (move_sto
 calm_handles n p s r (Stopped l ∷ rest) = cond_both (all_below n (move_note_stopped p s r rest).wave.stopped) (move_commit (move_note_stopped p s r rest)) (move_note_stopped p s r rest) (Calm n p)
     (λ e. record { channel = λ w s r a b. refl; wave = λ w. absurd (false≢true w) })
     (λ e. calm_refl n p (move_note_stopped p s r rest) refl refl (λ w. (w, refl)))
-calm_handles n p s r (Restored_now ∷ rest) = calm_refl n p (move_note_restored p s r rest) refl refl (λ w. (w, refl))
+calm_handles n p s r (Restored ∷ rest) = calm_refl n p (move_note_restored p s r rest) refl refl (λ w. (w, refl))
 
 pub ready_wave : (n : ℕ) (p : Protocol) (r : ℕ) → (then_ready n p r).wave ≡ p.wave
 ready_wave n p r = cond_both (ready_due n (p.layer r)) (move_ready p r) p (λ z. z.wave ≡ p.wave) (λ e. refl) (λ e. refl)

@@ -10,11 +10,11 @@ use Rattle.core_laws.specs.Quiet.{Event, Turn, Deliver, Handle, Begin_wave}
 use Rattle.core_laws.specs.Written.{written_turn, written_now, Written}
 use Rattle.core_laws.specs.Handling.{written_delivered, after_save, after_stop, all_below, then_ready, then_stop, protocol_after, handles}
 use Rattle.core_laws.specs.Stopping.{contents}
-use Rattle.core_laws.specs.Replay.{Restored, absorb, Back, may_turn}
+use Rattle.core_laws.specs.Replay.{Replaying, absorb, Back, may_turn}
 
 -- A rank that doesn't restore has no entries left and no operations to make again.
 pub record Core (S : Type 0) : Type 0 where
-  pub one : ℕ → Restored S
+  pub one : ℕ → Replaying S
   pub killed : ℕ → Bool
   -- the images and logs of the committed line, and those of the wave
   pub saved : ℕ → Written S
@@ -27,7 +27,7 @@ restores [] zero = false
 restores [] (suc left) = true
 restores (e ∷ log) left = true
 
-abbrev pub is_back : {S : Type 0} → Restored S → Bool
+abbrev pub is_back : {S : Type 0} → Replaying S → Bool
 is_back v = not (restores v.log v.left)
 
 -- a rank that restores no more tells rank 0
@@ -35,7 +35,7 @@ abbrev pub then_restored : Bool → Bool → Protocol → ℕ → Protocol
 then_restored was now p r = if not was && now then move_tell_restored p r else p
 
 -- A turn of one rank.
-abbrev pub one_turned : {S : Type 0} → Restored S → Turned S → Restored S
+abbrev pub one_turned : {S : Type 0} → Replaying S → Turned S → Replaying S
 one_turned v t = record v { rank = t.rank; left = if is_operation t.did then pred v.left else v.left }
 
 abbrev pub core_turned : {S : Type 0} → ℕ → Core S → ℕ → Turned S → Core S
@@ -52,11 +52,11 @@ accepts [] (suc left) s = false
 accepts (Late_entry a m ∷ log) left s = false
 accepts (Intra_entry a ∷ log) left s = a == s
 
-abbrev pub landed : {S : Type 0} → Restored S → List Entry → ℕ → Message → Restored S
+abbrev pub landed : {S : Type 0} → Replaying S → List Entry → ℕ → Message → Replaying S
 landed v [] s m = record v { rank = arrive v.rank s m }
 landed v (e ∷ log) s m = absorb v.left (arrive v.rank s m) log
 
-abbrev pub core_arrived : {S : Type 0} → ℕ → Core S → ℕ → ℕ → Restored S → Packet → List Packet → Core S
+abbrev pub core_arrived : {S : Type 0} → ℕ → Core S → ℕ → ℕ → Replaying S → Packet → List Packet → Core S
 core_arrived n c s r v x rest = record c {
   one = set_at c.one r v;
   written = written_delivered c.written (then_stop c.protocol r x) s r x;
@@ -71,7 +71,7 @@ core_delivers n c s r (x ∷ rest) = core_arrived n c s r (landed (c.one r) (c.o
 abbrev pub core_handled : {S : Type 0} → Core S → Protocol → Core S
 core_handled c p = record c { protocol = p; saved = if nat_lt c.protocol.wave.line p.wave.line then c.written else c.saved }
 
-abbrev pub rank_of : {S : Type 0} → (ℕ → Restored S) → ℕ → Rank S
+abbrev pub rank_of : {S : Type 0} → (ℕ → Replaying S) → ℕ → Rank S
 rank_of one r = (one r).rank
 
 unfoldable pub last_line : ℕ

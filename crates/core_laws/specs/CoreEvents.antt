@@ -5,7 +5,7 @@ use Rattle.core_laws.specs.Protocol.{Protocol, restarted}
 use Rattle.core_laws.specs.Process.{Process, Ranks, ranks}
 use Rattle.core_laws.specs.Quiet.{Event, Deliver, Handle}
 use Rattle.core_laws.specs.Written.{Written}
-use Rattle.core_laws.specs.Replay.{Restored, absorb}
+use Rattle.core_laws.specs.Replay.{Replaying, absorb}
 use Rattle.core_laws.specs.Core.{Core, restores, step_of, steps_of}
 
 -- Each pair's event as often as it is counted, by sender and then by receiver, both ascending.
@@ -53,7 +53,7 @@ start_of P = record {
 }
 
 -- The restart from the images and logs of a line.
-abbrev pub one_from : {S : Type 0} → Written S → Restored S
+abbrev pub one_from : {S : Type 0} → Written S → Replaying S
 one_from w = absorb w.ops w.image w.log
 
 abbrev pub restart_from : {S : Type 0} → ℕ → (ℕ → Written S) → Core S

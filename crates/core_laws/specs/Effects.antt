@@ -2,7 +2,7 @@
 use Rattle.std.specs.Prelude.{◌≡◌, ℕ, suc, Bool, true, not, ◌&&◌, List, [], ◌∷◌, ◌++◌, length, drop, nat_lt, if◌then◌else◌}
 use Rattle.late_logs.specs.declared.entry.Entry.{Entry}
 use Rattle.mpi_words.specs.declared.control.Control.{Control}
-use Rattle.mpi_words.specs.declared.control.Control.TheVariants.{Request, Count, Ready, Stop, Stopped, Restored as Restored_now}
+use Rattle.mpi_words.specs.declared.control.Control.TheVariants.{Request, Count, Ready, Stop, Stopped, Restored}
 use Rattle.core_laws.specs.Rows.{set_at}
 use Rattle.core_laws.specs.Protocol.{Packet, Layer}
 use Rattle.core_laws.specs.Process.{Ranks, Rank, Did, Nothing, Sent, Local, Marked}
@@ -47,7 +47,7 @@ control_effects n c s r (Count l k ∷ rest) = []
 control_effects n c s r (Ready l ∷ rest) = []
 control_effects n c s r (Stop l ∷ rest) = log_effects r (c.written r) (c.protocol.layer r).logging
 control_effects n c s r (Stopped l ∷ rest) = if all_below n (set_at c.protocol.wave.stopped s true) then Commits (suc c.protocol.wave.line) ∷ [] else []
-control_effects n c s r (Restored_now ∷ rest) = []
+control_effects n c s r (Restored ∷ rest) = []
 
 abbrev pub step_effects_of : {S : Type 0} → Ranks S → ℕ → Core S → Event → List (Effect S)
 step_effects_of P n c (Turn r) = if nat_lt r n && (not (c.killed r) && may_turn (c.one r).log (c.one r).left) then turn_effects (c.protocol.layer r) r (c.one r).rank.output (P.turn_of (c.one r).rank).rank (P.turn_of (c.one r).rank).did else []

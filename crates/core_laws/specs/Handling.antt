@@ -1,7 +1,7 @@
 -- What the protocol does at a turn, an arrival and a control.
 use Rattle.std.specs.Prelude.{ℕ, zero, suc, Bool, true, false, not, ◌&&◌, List, [], ◌∷◌, Option, Some, None, ◌==◌, nat_lt, if◌then◌else◌}
 use Rattle.mpi_words.specs.declared.control.Control.{Control}
-use Rattle.mpi_words.specs.declared.control.Control.TheVariants.{Request, Count, Ready, Stop, Stopped, Restored as Restored_now}
+use Rattle.mpi_words.specs.declared.control.Control.TheVariants.{Request, Count, Ready, Stop, Stopped, Restored}
 use Rattle.mpi_words.specs.declared.message.Message.{Message}
 use Rattle.core_laws.specs.Rows.{set_at}
 use Rattle.core_laws.specs.Protocol.{Packet, Layer, Protocol, move_send, move_skip, move_note_restored, move_save, move_ready, move_stop, move_pop, move_asked, move_told, move_note_ready, move_note_stopped, move_tell_stop, move_commit, class_of}
@@ -59,4 +59,4 @@ handles n p s r (Count l k ∷ rest) = then_ready n (move_told p s r k rest) r
 handles n p s r (Ready l ∷ rest) = let p' = move_note_ready p s r rest in if all_below n p'.wave.ready then move_tell_stop p' else p'
 handles n p s r (Stop l ∷ rest) = if (p.layer r).logging then move_stop (move_pop p s r rest) r else move_pop p s r rest
 handles n p s r (Stopped l ∷ rest) = let p' = move_note_stopped p s r rest in if all_below n p'.wave.stopped then move_commit p' else p'
-handles n p s r (Restored_now ∷ rest) = move_note_restored p s r rest
+handles n p s r (Restored ∷ rest) = move_note_restored p s r rest

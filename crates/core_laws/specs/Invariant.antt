@@ -2,7 +2,7 @@
 use Rattle.std.specs.Prelude.{◌≡◌, ℕ, suc, ◌+◌, ◌<◌, ◌≤◌, Bool, true, false, not, ◌&&◌, List, [], ◌∷◌, Option, ◌==◌, nat_lt, if◌then◌else◌, ◌-◌, IfSome, is_some}
 use Rattle.std.specs.List.{AllByRecursion}
 use Rattle.mpi_words.specs.declared.control.Control.{Control}
-use Rattle.mpi_words.specs.declared.control.Control.TheVariants.{Request, Count, Ready, Stop, Stopped, Restored as Restored_now}
+use Rattle.mpi_words.specs.declared.control.Control.TheVariants.{Request, Count, Ready, Stop, Stopped, Restored}
 use Rattle.core_laws.specs.Protocol.{Packet, Layer, Wave, Protocol}
 
 abbrev pub bit : Bool → ℕ
@@ -21,7 +21,7 @@ kind_of (Count l k) = 1
 kind_of (Ready l) = 2
 kind_of (Stop l) = 3
 kind_of (Stopped l) = 4
-kind_of Restored_now = 5
+kind_of Restored = 5
 
 -- how many controls of one kind are on the channel
 abbrev pub many : ℕ → List Control → ℕ
@@ -51,7 +51,7 @@ CountsSay k (Request l ∷ c) = CountsSay k c
 CountsSay k (Ready l ∷ c) = CountsSay k c
 CountsSay k (Stop l ∷ c) = CountsSay k c
 CountsSay k (Stopped l ∷ c) = CountsSay k c
-CountsSay k (Restored_now ∷ c) = CountsSay k c
+CountsSay k (Restored ∷ c) = CountsSay k c
 
 -- a rank that was asked in this wave, or has saved in it, handles no Stop before all are ready
 abbrev pub Timely : Bool → Bool → List Control → Type 0
@@ -62,7 +62,7 @@ Timely all_ready false (Stop l ∷ c) = Timely all_ready false c
 Timely all_ready asked (Count l k ∷ c) = Timely all_ready asked c
 Timely all_ready asked (Ready l ∷ c) = Timely all_ready asked c
 Timely all_ready asked (Stopped l ∷ c) = Timely all_ready asked c
-Timely all_ready asked (Restored_now ∷ c) = Timely all_ready asked c
+Timely all_ready asked (Restored ∷ c) = Timely all_ready asked c
 
 -- what a layer has of its sends to one rank, and of its arrivals from one rank
 pub record Out : Type 0 where
@@ -157,7 +157,7 @@ Allowed s r (Stop l) = s ≡ 0
 Allowed s r (Ready l) = r ≡ 0
 Allowed s r (Stopped l) = r ≡ 0
 Allowed s r (Count l k) = Unit {0}
-Allowed s r Restored_now = r ≡ 0
+Allowed s r Restored = r ≡ 0
 
 pub record Invariant (n : ℕ) (p : Protocol) : Type 0 where
   pub kept : Kept n p

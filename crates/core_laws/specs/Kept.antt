@@ -7,7 +7,7 @@ use Rattle.core_laws.specs.Written.{Written}
 use Rattle.core_laws.specs.Invariant.{Invariant, bit, tells_on}
 use Rattle.core_laws.specs.Stopping.{contents}
 use Rattle.core_laws.specs.Line.{Cut, quiet_of, Follows, IsLine, Journal, Stands, PairFits, sends_to, intra_from, replayed}
-use Rattle.core_laws.specs.Replay.{Restored, entries, restart, IsLag}
+use Rattle.core_laws.specs.Replay.{Replaying, entries, restart, IsLag}
 use Rattle.core_laws.specs.Plan.{HasPlan, Helps}
 use Rattle.core_laws.specs.Core.{Core, is_back, rank_of, back_of, step}
 
@@ -43,7 +43,7 @@ pub record Committed {S : Type 0} (P : Process S) (n : ℕ) (v : ℕ → Written
   pub stand : StandFor P n journal line
 
 -- A rank tells once that it restores no more, and not before; a wave begins when all have told.
-pub record Tells {S : Type 0} (n : ℕ) (one : ℕ → Restored S) (p : Protocol) : Type 0 where
+pub record Tells {S : Type 0} (n : ℕ) (one : ℕ → Replaying S) (p : Protocol) : Type 0 where
   pub told : (r : ℕ) → r < n → tells_on (p.control r 0) + bit (p.restored r) ≡ bit (is_back (one r))
   pub wave : p.wave.under_way ≡ true → (r : ℕ) → r < n → p.restored r ≡ true
 

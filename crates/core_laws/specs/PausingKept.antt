@@ -7,7 +7,7 @@ use Rattle.core_laws.specs.Written.{Written}
 use Rattle.core_laws.specs.Handling.{after_save}
 use Rattle.core_laws.specs.Stopping.{contents}
 use Rattle.core_laws.specs.Line.{Logged, Stands, sends_to, intra_from, replayed}
-use Rattle.core_laws.specs.Replay.{Restored, entries, journal_of, PairLags, Lags}
+use Rattle.core_laws.specs.Replay.{Replaying, entries, journal_of, PairLags, Lags}
 use Rattle.core_laws.specs.Plan.{HasPlan}
 use Rattle.core_laws.specs.Core.{Core, is_back, back_of, step_of}
 use Rattle.core_laws.specs.Kept.{IsKept, Committed}
@@ -50,7 +50,7 @@ pub record IsCore {S : Type 0} (P : Stepping S) (n most : ℕ) (a c : Core S) : 
   pub protocol : c.protocol ≡ a.protocol
 
 -- A state that a quiet run of pausing ranks reaches, in which each rank that doesn't restore stands as it does, and which the core lags behind.
-pub record IsBeside {S : Type 0} (P : Stepping S) (n b : ℕ) (a : Core S) (one : ℕ → Restored S) : Type 0 where
+pub record IsBeside {S : Type 0} (P : Stepping S) (n b : ℕ) (a : Core S) (one : ℕ → Replaying S) : Type 0 where
   pub live : Quiet S
   pub reached : IsReached_of (stepping P) n live
   pub ahead : Quiet S

@@ -1,7 +1,7 @@
 -- What is done at once, and never left for later.
 use Rattle.std.specs.Prelude.{◌≡◌, ℕ, zero, suc, ◌+◌, ◌<◌, ◌≤◌, true, false, List, [], ◌∷◌, ◌==◌}
 use Rattle.mpi_words.specs.declared.control.Control.{Control}
-use Rattle.mpi_words.specs.declared.control.Control.TheVariants.{Request, Count, Ready, Stop, Stopped, Restored as Restored_now}
+use Rattle.mpi_words.specs.declared.control.Control.TheVariants.{Request, Count, Ready, Stop, Stopped, Restored}
 use Rattle.core_laws.specs.Protocol.{Protocol}
 use Rattle.core_laws.specs.Invariant.{bit}
 use Rattle.core_laws.specs.Handling.{all_below, ready_due}
@@ -19,7 +19,7 @@ kind i (Count l k) = bit (i == 0)
 kind i (Ready l) = bit (i == 1)
 kind i (Stop l) = bit (i == 2)
 kind i (Stopped l) = bit (i == 3)
-kind i Restored_now = 0
+kind i Restored = 0
 
 abbrev pub stops_on : List Control → ℕ
 stops_on c = behind (kind 2) 0 c

@@ -3,7 +3,7 @@ use Rattle.std.specs.Prelude.{ℕ, suc, pred, Bool, true, false, List, [], ◌�
 use Rattle.mpi_words.specs.declared.message.Message.{Message}
 use Rattle.mpi_words.specs.declared.label.Label.{Label}
 use Rattle.mpi_words.specs.declared.control.Control.{Control}
-use Rattle.mpi_words.specs.declared.control.Control.TheVariants.{Request, Count, Ready, Stop, Stopped, Restored as Restored_now}
+use Rattle.mpi_words.specs.declared.control.Control.TheVariants.{Request, Count, Ready, Stop, Stopped, Restored}
 use Rattle.core_laws.specs.Rows.{set_at, set_pair}
 
 -- a message on a channel, with its sender's epoch and flag as of its send
@@ -158,7 +158,7 @@ move_skip p s r = record p { layer = set_at p.layer s (record (p.layer s) { sent
 
 -- a rank that has ceased to restore
 abbrev pub move_tell_restored : Protocol → ℕ → Protocol
-move_tell_restored p r = record p { control = set_pair p.control r 0 (p.control r 0 ++ Restored_now ∷ []) }
+move_tell_restored p r = record p { control = set_pair p.control r 0 (p.control r 0 ++ Restored ∷ []) }
 
 -- rank r is rank 0 here
 abbrev pub move_note_restored : Protocol → ℕ → ℕ → List Control → Protocol
@@ -169,7 +169,7 @@ move_note_restored p s r rest = record p {
 
 abbrev pub told_restored : Bool → List Control
 told_restored true = []
-told_restored false = Restored_now ∷ []
+told_restored false = Restored ∷ []
 
 -- The restart from a line whose images have these early counts. A rank that has nothing to restore tells so.
 abbrev pub restarted : ℕ → (ℕ → ℕ → ℕ) → (ℕ → Bool) → Protocol

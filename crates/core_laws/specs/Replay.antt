@@ -16,19 +16,19 @@ entries [] = []
 entries (a ∷ l) = entry a ∷ entries l
 
 -- one rank after a restart: what is left of its log, and of its operations until its stop
-pub record Restored (S : Type 0) : Type 0 where
+pub record Replaying (S : Type 0) : Type 0 where
   pub rank : Rank S
   pub log : List Entry
   pub left : ℕ
 
 -- late entries at the log's front go into the mailbox at once
-abbrev pub absorb : {S : Type 0} → ℕ → Rank S → List Entry → Restored S
+abbrev pub absorb : {S : Type 0} → ℕ → Rank S → List Entry → Replaying S
 absorb left k [] = record { rank = k; log = []; left = left }
 absorb left k (Late_entry s m ∷ l) = absorb left (arrive k s m) l
 absorb left k (Intra_entry s ∷ l) = record { rank = k; log = Intra_entry s ∷ l; left = left }
 
 pub record Back (S : Type 0) : Type 0 where
-  pub one : ℕ → Restored S
+  pub one : ℕ → Replaying S
   pub channel : ℕ → ℕ → List Message
   pub skip : ℕ → ℕ → ℕ
 
@@ -56,7 +56,7 @@ back_turn P b r = let t = turn P (b.one r).rank in record {
   skip = back_skip b.skip r t.did;
 }
 
-abbrev pub back_arrives : {S : Type 0} → Back S → ℕ → ℕ → Restored S → Message → List Message → Back S
+abbrev pub back_arrives : {S : Type 0} → Back S → ℕ → ℕ → Replaying S → Message → List Message → Back S
 back_arrives b s r v m rest = record b { one = set_at b.one r v; channel = set_pair b.channel s r rest }
 
 -- a delivery to a rank by what is left of its log
@@ -87,7 +87,7 @@ pub record PairLags (channel sends : List Message) (skip : ℕ) (intra new : Lis
   pub rest : channel ++ drop skip sends ≡ intra ++ new
 
 -- the journal of what is left
-abbrev pub journal_of : {S : Type 0} → Restored S → List Logged → Journal S
+abbrev pub journal_of : {S : Type 0} → Replaying S → List Logged → Journal S
 journal_of v since = record { image = v.rank; early = λ s. 0; since = since; ops = v.left }
 
 -- Each rank, with the arrivals that its log still names, makes its operations and is then v's.

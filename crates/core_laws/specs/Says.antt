@@ -2,7 +2,7 @@
 use Rattle.std.specs.Prelude.{◌≡◌, ℕ, suc, ◌<◌}
 use Rattle.std.specs.List.{AllByRecursion}
 use Rattle.mpi_words.specs.declared.control.Control.{Control}
-use Rattle.mpi_words.specs.declared.control.Control.TheVariants.{Request, Count, Ready, Stop, Stopped, Restored as Restored_now}
+use Rattle.mpi_words.specs.declared.control.Control.TheVariants.{Request, Count, Ready, Stop, Stopped, Restored}
 use Rattle.core_laws.specs.Protocol.{Protocol}
 
 -- a Ready or Stopped that names this line
@@ -12,7 +12,7 @@ OfLine line (Stopped l) = l ≡ line
 OfLine line (Request l) = Unit {0}
 OfLine line (Count l k) = Unit {0}
 OfLine line (Stop l) = Unit {0}
-OfLine line Restored_now = Unit {0}
+OfLine line Restored = Unit {0}
 
 -- each Ready and each Stopped that is on its way to rank 0 names the line of the wave under way
 abbrev pub Says : ℕ → Protocol → Type 0
