@@ -3,3 +3,8 @@ pub mod Plain
 pub mod PassPlaces
 pub mod PassSteps
 pub mod PassFollows
+pub mod Keeps
+pub mod Calls
+pub mod Leads
+pub mod Restarts
+pub mod Returns

@@ -164,7 +164,7 @@ start_by code passed is main seat (Ok m) v = found (is.moves main)
     found (inl moves) = passes_by (record { sites = []; described = []; memory = m; seat = seat; phase = Before; printed = 0; asked = None }) main 0 0 v [] [] [] [] [] [] moves entering none
     found (inr e) = missing (record { sites = []; described = []; memory = m; seat = seat; phase = Before; printed = 0; asked = None }) main 0 v [] [] [] [] e.0 e.1 none
 
-pass_starts : (c : Code) (rank ranks : ℕ) → Passes c.functions (passed c).functions → PassedTo c.functions (passed c).functions (start c rank ranks) (start (passed c) rank ranks)
+pub pass_starts : (c : Code) (rank ranks : ℕ) → Passes c.functions (passed c).functions → PassedTo c.functions (passed c).functions (start c rank ranks) (start (passed c) rank ranks)
 pass_starts c rank ranks is =
     subst (λ lengths. PassedTo c.functions (passed c).functions (start c rank ranks) (elim (enter empty lengths) [
       | Err code ↦ record { frames = []; sites = []; described = []; memory = empty; seat = seat_of c rank ranks; phase = Before; printed = 0; asked = None }

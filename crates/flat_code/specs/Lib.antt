@@ -3,3 +3,4 @@ pub mod Placed
 pub mod Text
 pub mod Nested
 pub mod Labels
+pub mod Restart
