@@ -13,10 +13,8 @@ use Rattle.ccift_lower.specs.Laid.{At}
 use Rattle.ccift_lower.specs.Stands.{World, machine_in}
 use Rattle.ccift_pass.specs.Passed.{passes, place_in}
 use Rattle.ccift_pass.specs.Spots.{Has, HasSite, IsPlain, Moves, missing_code, Spot, entering, between, at_call, at_mark, popping, leaving, Paired, none, pair, PassedTo, nowhere, passes_by, missing}
+use Rattle.ccift_pass.specs.Stages.{stage}
 use Rattle.ccift_pass.proofs.Calls.{taken, CalledBy, Framed}
-
-abbrev pub stage : Frame → Stage
-stage f = record { function = f.function; place = f.place }
 
 -- a list before another, turned round
 abbrev pub onto : {A : Type 0} → List A → List A → List A

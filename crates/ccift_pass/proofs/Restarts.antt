@@ -15,7 +15,8 @@ use Rattle.flat_code.specs.declared.code.Instr.TheVariants.{Call, Mark}
 use Rattle.flat_code.specs.Machine.{Frame, Machine, lengths_in, descriptors, seat_of}
 use Rattle.flat_code.specs.Restart.{Restarting, restarting, jumps, reenters, reacts, reenter_in, reenter, Reenters, instr_here, IsAtMark, Stage, instr_on, IsPlaceOf, HasRoom, LeadsAt, to_mark, by_call}
 use Rattle.ccift_pass.proofs.Calls.{Sized, added_calls}
-use Rattle.ccift_pass.proofs.Leads.{stage, onto}
+use Rattle.ccift_pass.specs.Stages.{stage}
+use Rattle.ccift_pass.proofs.Leads.{onto}
 
 -- a machine with other calls
 abbrev pub with_calls : Machine → List Frame → Memory → List ℕ → Machine

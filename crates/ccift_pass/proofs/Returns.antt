@@ -20,10 +20,11 @@ use Rattle.flat_code.specs.Machine.{Frame, Machine, lengths_in, descriptors, des
 use Rattle.flat_code.specs.Restart.{Restarting, restarting, Reenters, instr_here, IsAtMark, Stage, LeadsAt, LeadsTo, passed_mark, past_mark, saved_of, newest_serials, first_among, numbered, put_back}
 use Rattle.ccift_lower.specs.Runs.{Ran}
 use Rattle.ccift_pass.specs.Passed.{passed}
+use Rattle.ccift_pass.specs.Stages.{stage, stages_of}
 use Rattle.ccift_pass.specs.Spots.{Passes}
 use Rattle.ccift_pass.proofs.Keeps.{extents}
 use Rattle.ccift_pass.proofs.Calls.{laid, extents_of, Sized, Framed, Sound, stays_sound, starts_sound}
-use Rattle.ccift_pass.proofs.Leads.{stage, onto, all_described, Leading, leading}
+use Rattle.ccift_pass.proofs.Leads.{onto, all_described, Leading, leading}
 use Rattle.ccift_pass.proofs.Restarts.{Back, with_calls, began, at_most, comes_from_start}
 use Rattle.ccift_pass.proofs.PassFollows.{passed_runs, pass_starts}
 
@@ -196,12 +197,13 @@ module _ (c : Code) (rank ranks : ℕ) (n : Machine) where
 
 -- ---- from any sites that lead to a mark
 
-pub reaches : (c : Code) (rank ranks : ℕ) (sites : List ℕ) → LeadsTo c sites → (t : Restarting) × Reenters c.functions (2 * length sites - 1) (restarting c rank ranks sites) t × IsAtMark c.functions t.machine
+pub reaches : (c : Code) (rank ranks : ℕ) (sites : List ℕ) (leads : LeadsTo c sites) → (t : Restarting) × Reenters c.functions (2 * length sites - 1) (restarting c rank ranks sites) t × IsAtMark c.functions t.machine × (stages_of t.machine.frames ≡ leads.stages)
 reaches c rank ranks sites l =
     let b = comes_from_start c rank ranks sites l.stages l.leads in
     let t : Restarting = record { machine = with_calls (began c rank ranks sites) b.frames b.memory b.described; left = [] } in
     let many : b.turns ≡ 2 * length sites - 1 = let k = b.count in omega (arith, k) in
-    (t, subst (λ k. Reenters c.functions k (restarting c rank ranks sites) t) many b.runs, record { site = b.site; mark = b.mark })
+    let stages : stages_of b.frames ≡ l.stages = ap reverse (b.by_stages ∙ turned l.stages) ∙ reverse-reverse l.stages in
+    (t, subst (λ k. Reenters c.functions k (restarting c rank ranks sites) t) many b.runs, record { site = b.site; mark = b.mark }, stages)
 
 -- after another number of instructions it isn't at a mark
 pub not_before : (c : Code) (rank ranks : ℕ) (sites : List ℕ) → LeadsTo c sites → (k : ℕ) (t : Restarting) → Reenters c.functions k (restarting c rank ranks sites) t → IsAtMark c.functions t.machine → k ≡ 2 * length sites - 1

@@ -17,6 +17,7 @@ ghost use Rattle.flat_code.specs.Restart.{Restarting, restarting, Reenters, IsAt
 ghost use Rattle.ccift_lower.specs.Lowered.{lowered};
 ghost use Rattle.ccift_lower.specs.Runs.{Run, Ran, Finishes, Finished};
 ghost use Rattle.ccift_pass.specs.Passed.{passed};
+ghost use Rattle.ccift_pass.specs.Stages.{stages_of};
 
 /// Fed with any replies, passed code makes the operations and the end that some run of its program makes with these replies.
 pub fn follows_the_program()
@@ -34,10 +35,11 @@ pub fn makes_its_mark()
         (mid : machine.Machine) × (machine.step functions refuses m ≡ machine.Asks op.Mark mid) × (machine.answered mid reply.Done ≡ machine.Goes false (past_mark m)) }
 {}
 
-/// Along sites that lead to a mark, restart mode stands at a mark after twice as many instructions as there are sites, less one, and at none before or after.
+/// Along sites that lead to a mark, restart mode stands at that mark after twice as many instructions as there are sites, less one, and at none before or after.
 pub fn restarts()
-    ensures reaches { (c : Code) (rank ranks : ℕ) (sites : List ℕ) → LeadsTo c sites →
-        (t : Restarting) × Reenters c.functions (2 * length sites - 1) (restarting c rank ranks sites) t × IsAtMark c.functions t.machine }
+    ensures reaches { (c : Code) (rank ranks : ℕ) (sites : List ℕ) (leads : LeadsTo c sites) →
+        (t : Restarting) × Reenters c.functions (2 * length sites - 1) (restarting c rank ranks sites) t ×
+        IsAtMark c.functions t.machine × (stages_of t.machine.frames ≡ leads.stages) }
     ensures alone { (c : Code) (rank ranks : ℕ) (sites : List ℕ) → LeadsTo c sites →
         (n : ℕ) (t : Restarting) → Reenters c.functions n (restarting c rank ranks sites) t → IsAtMark c.functions t.machine → n ≡ 2 * length sites - 1 }
 {}
