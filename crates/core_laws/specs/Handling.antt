@@ -2,6 +2,7 @@
 use Rattle.std.specs.Prelude.{ℕ, zero, suc, Bool, true, false, not, ◌&&◌, List, [], ◌∷◌, Option, Some, None, ◌==◌, nat_lt, if◌then◌else◌}
 use Rattle.mpi_words.specs.declared.control.Control.{Control}
 use Rattle.mpi_words.specs.declared.control.Control.TheVariants.{Request, Count, Ready, Stop, Stopped, Restored}
+use Rattle.mpi_words.specs.declared.label.Label.{Label}
 use Rattle.mpi_words.specs.declared.message.Message.{Message}
 use Rattle.core_laws.specs.Rows.{set_at}
 use Rattle.core_laws.specs.Protocol.{Packet, Layer, Protocol, move_send, move_skip, move_note_restored, move_save, move_ready, move_stop, move_pop, move_asked, move_told, move_note_ready, move_note_stopped, move_tell_stop, move_commit, class_of}
@@ -42,8 +43,11 @@ protocol_after n p r Local = p
 protocol_after n p r Marked = if (p.layer r).asked then then_ready n (move_save p r) r else p
 
 -- a rank that logs stops where it meets a message that its sender sent after its own stop
+abbrev pub stops_on : Layer → Label → Bool
+stops_on l x = l.logging && ((x.epoch == l.epoch) && not x.logging)
+
 abbrev pub stops_at : Layer → Packet → Bool
-stops_at l x = l.logging && ((x.1.epoch == l.epoch) && not x.1.logging)
+stops_at l x = stops_on l x.1
 
 abbrev pub then_stop : Protocol → ℕ → Packet → Protocol
 then_stop p r x = if stops_at (p.layer r) x then move_stop p r else p
