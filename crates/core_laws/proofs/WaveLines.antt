@@ -355,6 +355,9 @@ line_turned {S} P n rank p v r b k w h = line_calm P n (set_at rank r (turn P (r
 intra≢early : Intra ≡ Early → ⊥
 intra≢early = grind arith
 
+late≢early : Late ≡ Early → ⊥
+late≢early = grind arith
+
 arrive_layer : (L : ℕ) (l : Layer) (s : ℕ) (cl : Class) → ((layer_arrive l s cl).epoch ≡ l.epoch) × (has_stopped L (layer_arrive l s cl) ≡ has_stopped L l) × ((x : ℕ) → (layer_arrive l s cl).early x ≡ early_more cl l.early s x)
 arrive_layer L l s Late = (refl, refl, λ x. refl)
 arrive_layer L l s Intra = (refl, refl, λ x. refl)
@@ -365,9 +368,12 @@ early_more-same Late f g s h x = h x
 early_more-same Intra f g s h x = h x
 early_more-same Early f g s h x = at_set_both (λ a b. a ≡ b) f g s (suc (f s)) (suc (g s)) x (λ _. ap suc (h s)) (λ _. h x)
 
-arrive_written : {S : Type 0} (b : Bool) (cl : Class) (j : Journal S) (w : Written S) (s : ℕ) (m : Message) → IsWritten j w → IsWritten (journal_arrive b cl j s m) (written_arrive false b cl w s m)
-arrive_written true cl j w s m h = record { image = h.image; early = h.early; log = entries-push j.since (record { source = s; message = m; late = is_late cl }) ∙ ap (λ l. l ++ (if is_late cl then Late_entry s m else Intra_entry s) ∷ []) h.log; ops = h.ops }
-arrive_written false cl j w s m h = record { image = ap (λ k. arrive k s m) h.image; early = early_more-same cl j.early w.early s h.early; log = h.log; ops = h.ops }
+-- a rank that has saved gets no early arrivals
+arrive_written : {S : Type 0} (b : Bool) (cl : Class) (j : Journal S) (w : Written S) (s : ℕ) (m : Message) → (b ≡ true → cl ≡ Early → ⊥) → IsWritten j w → IsWritten (journal_arrive b cl j s m) (written_arrive false b cl w s m)
+arrive_written true Late j w s m never h = record { image = h.image; early = h.early; log = entries-push j.since (record { source = s; message = m; late = true }) ∙ ap (λ l. l ++ Late_entry s m ∷ []) h.log; ops = h.ops }
+arrive_written true Intra j w s m never h = record { image = h.image; early = h.early; log = entries-push j.since (record { source = s; message = m; late = false }) ∙ ap (λ l. l ++ Intra_entry s ∷ []) h.log; ops = h.ops }
+arrive_written true Early j w s m never h = absurd (never refl refl)
+arrive_written false cl j w s m never h = record { image = ap (λ k. arrive k s m) h.image; early = early_more-same cl j.early w.early s h.early; log = h.log; ops = h.ops }
 
 has_arrive : {S : Type 0} (P : Process S) (n : ℕ) (rank : ℕ → Rank S) (p : Protocol) (v : ℕ → Written S) (s r : ℕ) (x : Packet) (rest : List Packet) → s < n → r < n → p.channel s r ≡ x ∷ rest → Kept n p
     → (stopped_in p r ≡ false → is_after p.wave.line x ≡ false) → HasLine P n rank p v → HasLine P n (set_at rank r (arrive (rank r) s x.0)) (move_arrive p s r x.1.epoch rest) (set_at v r (written_arrive (stopped_in p r) (is_saved p r) (class_of (p.layer r).epoch x.1.epoch) (v r) s x.0))
@@ -453,10 +459,13 @@ has_arrive {S} P n rank p v s r x rest a b is k safe h = ⊎_elim off on (cases_
           (cases_lt x.1.epoch (suc p.wave.line)),
     )
 
+    never_early : saved ≡ true → cl ≡ Early → ⊥
+    never_early e f = ⊎_elim (λ d. late≢early (sym d.0 ∙ f)) (λ d. intra≢early (sym d.0 ∙ f)) (when_saved e)
+
     on : stopped_in p r ≡ false → HasLine P n (set_at rank r k') after (set_at v r (written_arrive (stopped_in p r) (is_saved p r) (class_of (p.layer r).epoch x.1.epoch) (v r) s x.0))
     on e = record {
       cut = record { rank = set_at c.rank r (arrive (c.rank r) s x.0); channel = set_pair c.channel s r (in_cut p.wave.line rest); journal = set_at c.journal r (journal_arrive saved cl (c.journal r) s x.0) };
-      written = λ y. at_set_both IsWritten c.journal v r (journal_arrive saved cl (c.journal r) s x.0) (written_arrive (stopped_in p r) saved cl (v r) s x.0) y (λ _. subst (λ z. IsWritten (journal_arrive saved cl (c.journal r) s x.0) (written_arrive z saved cl (v r) s x.0)) (sym e) (arrive_written saved cl (c.journal r) (v r) s x.0 (h.written r))) (λ _. h.written y);
+      written = λ y. at_set_both IsWritten c.journal v r (journal_arrive saved cl (c.journal r) s x.0) (written_arrive (stopped_in p r) saved cl (v r) s x.0) y (λ _. subst (λ z. IsWritten (journal_arrive saved cl (c.journal r) s x.0) (written_arrive z saved cl (v r) s x.0)) (sym e) (arrive_written saved cl (c.journal r) (v r) s x.0 never_early (h.written r))) (λ _. h.written y);
       reached = subst (λ q. IsReached P n q) path (reached_next P n (quiet_of c) (Deliver s r) h.reached);
       plan = arrive_plan saved refl;
       follows = record {
