@@ -1,12 +1,12 @@
 -- Where an event takes the line on, its effects say so.
 use Rattle.std.proofs.Common.{◌≡◌, ℕ, suc, ◌<◌, Bool, true, false, not, List, [], ◌∷◌, ◌++◌, sym, refl, ap, ◌∙◌, subst, ⊎_elim, arith}
 use Rattle.std.specs.Prelude.{◌&&◌, nat_lt, if◌then◌else◌}
-use Rattle.std.proofs.lemmas.Bool.{cond_both, cases_eq}
+use Rattle.std.proofs.lemmas.Bool.{cond_both, cond-true, cases_eq}
 use Rattle.std.proofs.lemmas.List.{append_assoc}
 use Rattle.mpi_words.specs.declared.control.Control.{Control}
 use Rattle.mpi_words.specs.declared.control.Control.TheVariants.{Request, Count, Ready, Stop, Stopped, Restored}
 use Rattle.core_laws.specs.Rows.{set_at}
-use Rattle.core_laws.specs.Protocol.{Protocol, move_told, move_pop, move_stop, move_note_ready, move_note_stopped, move_tell_stop, move_commit}
+use Rattle.core_laws.specs.Protocol.{Protocol, move_told, move_pop, move_stop}
 use Rattle.core_laws.specs.Process.{Ranks}
 use Rattle.core_laws.specs.Quiet.{Event, Turn, Deliver, Handle, Begin_wave}
 use Rattle.core_laws.specs.Handling.{handles, all_below, protocol_after}
@@ -16,6 +16,7 @@ use Rattle.core_laws.specs.CoreEvents.{Core_event, Single, Sweep, Kill, next_of,
 use Rattle.core_laws.specs.Effects.{Effect, Commits, control_effects, step_effects_of, steps_effects_of, effects_of, Has}
 use Rattle.core_laws.proofs.PromptKept.{wave_after, wave_then_ready}
 use Rattle.core_laws.proofs.SweepTracks.{line_step, wave_delivers, restored_line}
+use Rattle.core_laws.proofs.Noting.{ready_cases, stopped_cases}
 
 has_left : {A : Type 0} (xs ys : List A) (x : A) → Has xs x → Has (xs ++ ys) x
 has_left xs ys x h = record { before = h.before; after = h.after ++ ys; split = ap (λ l. l ++ ys) h.split ∙ append_assoc h.before (x ∷ h.after) ys }
@@ -27,14 +28,14 @@ handled_commits : {S : Type 0} (n : ℕ) (c : Core S) (s r : ℕ) (q : List Cont
 handled_commits n c s r [] h = absurd (omega (arith, h))
 handled_commits n c s r (Request l ∷ rest) h = absurd (omega (arith, h))
 handled_commits n c s r (Count l k ∷ rest) h = absurd (omega (arith, h, ap (λ w. w.line) (wave_then_ready n (move_told c.protocol s r k rest) r)))
-handled_commits n c s r (Ready l ∷ rest) h = let p' = move_note_ready c.protocol s r rest in
-    absurd (omega (arith, h, cond_both (all_below n p'.wave.ready) (move_tell_stop p') p' (λ (q : Protocol). q.wave.line ≡ c.protocol.wave.line) (λ e. refl) (λ e. refl)))
+handled_commits n c s r (Ready l ∷ rest) h = absurd (omega (arith, h, ready_cases n c.protocol s r l rest (λ (q : Protocol). q.wave.line ≡ c.protocol.wave.line) (λ _ _. refl) (λ _ _. refl) (λ _. refl)))
 handled_commits n c s r (Stop l ∷ rest) h = absurd (omega (arith, h, cond_both (c.protocol.layer r).logging (move_stop (move_pop c.protocol s r rest) r) (move_pop c.protocol s r rest) (λ (q : Protocol). q.wave.line ≡ c.protocol.wave.line) (λ e. refl) (λ e. refl)))
-handled_commits {S} n c s r (Stopped l ∷ rest) h = go (all_below n (set_at c.protocol.wave.stopped s true)) h
-  where
-    go : (b : Bool) → (if b then move_commit (move_note_stopped c.protocol s r rest) else move_note_stopped c.protocol s r rest).wave.line ≡ suc c.protocol.wave.line → Has {A = Effect S} (if b then Commits (suc c.protocol.wave.line) ∷ [] else []) (Commits (suc c.protocol.wave.line))
-    go true e = record { before = []; after = []; split = refl }
-    go false e = absurd (omega (arith, e))
+handled_commits {S} n c s r (Stopped l ∷ rest) h = let one : List (Effect S) = Commits (suc c.protocol.wave.line) ∷ [] in
+    stopped_cases n c.protocol s r l rest (λ (q : Protocol). q.wave.line ≡ suc c.protocol.wave.line → Has {A = Effect S} (control_effects n c s r (Stopped l ∷ rest)) (Commits (suc c.protocol.wave.line)))
+    (λ _ e _. subst (λ es. Has {A = Effect S} es (Commits (suc c.protocol.wave.line))) (sym (cond-true (all_below n (set_at c.protocol.wave.stopped s true)) one [] e)) (record { before = []; after = []; split = refl }))
+    (λ _ _ e. absurd (omega (arith, e)))
+    (λ _ e. absurd (omega (arith, e)))
+    h
 handled_commits n c s r (Restored ∷ rest) h = absurd (omega (arith, h))
 
 step_commits : {S : Type 0} (P : Ranks S) (n : ℕ) (c : Core S) (e : Event) → (step_of P n c e).protocol.wave.line ≡ suc c.protocol.wave.line → Has (step_effects_of P n c e) (Commits (suc c.protocol.wave.line))

@@ -242,7 +242,7 @@ restart_kept P n L w h = record {
 
 pub start_kept : {S : Type 0} (P : Process S) (n : ℕ) → IsKept P n (start P)
 start_kept P n = record {
-  protocol = let i = inv_restarted n 0 (λ r x. 0) (λ r. true) in record { kept = record { rank = i.kept.rank; down = i.kept.down; up = i.kept.up; pair = i.kept.pair; skips = i.kept.skips; noted = i.kept.noted }; origins = i.origins };
+  protocol = let i = inv_restarted n 0 (λ r x. 0) (λ r. true) in record { kept = record { rank = i.kept.rank; down = i.kept.down; up = i.kept.up; pair = i.kept.pair; skips = i.kept.skips; noted = i.kept.noted }; origins = i.origins; says = i.says };
   tells = record { told = λ r a. refl; wave = λ e. absurd (false≢true e) };
   lag = record {
     ahead = quiet_start P;

@@ -8,15 +8,16 @@ use Rattle.mpi_words.specs.declared.control.Control.{Control}
 use Rattle.mpi_words.specs.declared.control.Control.TheVariants.{Request, Count, Ready, Stop, Stopped, Restored}
 use Rattle.mpi_words.specs.declared.message.Message.{Message}
 use Rattle.core_laws.specs.Rows.{set_at, set_pair}
-use Rattle.core_laws.specs.Protocol.{Packet, Layer, Protocol, Class, Late, Intra, Early, layer_arrive, class_of, layer_save, layer_send, move_send, move_skip, move_save, move_arrive, move_ready, move_stop, move_pop, move_asked, move_told, move_note_ready, move_note_stopped, move_tell_stop, move_commit, move_tell_restored}
+use Rattle.core_laws.specs.Protocol.{Packet, Layer, Protocol, Class, Late, Intra, Early, layer_arrive, class_of, layer_save, layer_send, move_send, move_skip, move_save, move_arrive, move_ready, move_stop, move_pop, move_asked, move_told, move_tell_restored}
 use Rattle.core_laws.specs.Process.{Process, Did, Nothing, Sent, Local, Marked, turn, arrive}
 use Rattle.core_laws.specs.Quiet.{Deliver}
-use Rattle.core_laws.specs.Handling.{handles, then_ready, then_stop, ready_due, stops_at, all_below, protocol_after}
+use Rattle.core_laws.specs.Handling.{handles, then_ready, then_stop, ready_due, stops_at, protocol_after}
 use Rattle.core_laws.specs.Stopping.{contents}
 use Rattle.core_laws.specs.Replay.{Replaying, absorb, Back, back_channel, back_skip, back_turn, back_arrives, back_deliver, back_next}
 use Rattle.core_laws.specs.Core.{Core, is_back, then_restored, one_turned, core_turned, accepts, landed, core_arrived, core_handled, back_of}
 use Rattle.core_laws.proofs.QuietRuns.{contents-push, set_at-map, set_pair-map, contents_of, then_stop-channel, ready_channel}
 use Rattle.core_laws.proofs.PlanKept.{set_same, back_path}
+use Rattle.core_laws.proofs.Noting.{ready_cases, stopped_cases}
 
 abbrev pub skips_of : Protocol → ℕ → ℕ → ℕ
 skips_of p s r = (p.layer s).skip r
@@ -122,19 +123,19 @@ handles_channel : (n : ℕ) (p : Protocol) (s r : ℕ) (c : List Control) → (h
 handles_channel n p s r [] = refl
 handles_channel n p s r (Request l ∷ rest) = refl
 handles_channel n p s r (Count l k ∷ rest) = ready_channel n (move_told p s r k rest) r
-handles_channel n p s r (Ready l ∷ rest) = cond_both (all_below n (move_note_ready p s r rest).wave.ready) (move_tell_stop (move_note_ready p s r rest)) (move_note_ready p s r rest) (λ z. z.channel ≡ p.channel) (λ e. refl) (λ e. refl)
+handles_channel n p s r (Ready l ∷ rest) = ready_cases n p s r l rest (λ z. z.channel ≡ p.channel) (λ _ _. refl) (λ _ _. refl) (λ _. refl)
 handles_channel n p s r (Stop l ∷ rest) = cond_both (p.layer r).logging (move_stop (move_pop p s r rest) r) (move_pop p s r rest) (λ z. z.channel ≡ p.channel) (λ e. refl) (λ e. refl)
-handles_channel n p s r (Stopped l ∷ rest) = cond_both (all_below n (move_note_stopped p s r rest).wave.stopped) (move_commit (move_note_stopped p s r rest)) (move_note_stopped p s r rest) (λ z. z.channel ≡ p.channel) (λ e. refl) (λ e. refl)
+handles_channel n p s r (Stopped l ∷ rest) = stopped_cases n p s r l rest (λ z. z.channel ≡ p.channel) (λ _ _. refl) (λ _ _. refl) (λ _. refl)
 handles_channel n p s r (Restored ∷ rest) = refl
 
 handles_skips : (n : ℕ) (p : Protocol) (s r : ℕ) (c : List Control) → skips_of (handles n p s r c) ≡ skips_of p
 handles_skips n p s r [] = refl
 handles_skips n p s r (Request l ∷ rest) = skips_layer p (move_asked p s r rest) r (record (p.layer r) { asked = true }) refl refl
 handles_skips n p s r (Count l k ∷ rest) = skips_ready n (move_told p s r k rest) r ∙ skips_layer p (move_told p s r k rest) r (record (p.layer r) { told = set_at (p.layer r).told s (Some k) }) refl refl
-handles_skips n p s r (Ready l ∷ rest) = cond_both (all_below n (move_note_ready p s r rest).wave.ready) (move_tell_stop (move_note_ready p s r rest)) (move_note_ready p s r rest) (λ z. skips_of z ≡ skips_of p) (λ e. refl) (λ e. refl)
+handles_skips n p s r (Ready l ∷ rest) = ready_cases n p s r l rest (λ z. skips_of z ≡ skips_of p) (λ _ _. refl) (λ _ _. refl) (λ _. refl)
 handles_skips n p s r (Stop l ∷ rest) = cond_both (p.layer r).logging (move_stop (move_pop p s r rest) r) (move_pop p s r rest) (λ z. skips_of z ≡ skips_of p)
     (λ e. skips_layer (move_pop p s r rest) (move_stop (move_pop p s r rest) r) r (record (p.layer r) { logging = false }) refl refl) (λ e. refl)
-handles_skips n p s r (Stopped l ∷ rest) = cond_both (all_below n (move_note_stopped p s r rest).wave.stopped) (move_commit (move_note_stopped p s r rest)) (move_note_stopped p s r rest) (λ z. skips_of z ≡ skips_of p) (λ e. refl) (λ e. refl)
+handles_skips n p s r (Stopped l ∷ rest) = stopped_cases n p s r l rest (λ z. skips_of z ≡ skips_of p) (λ _ _. refl) (λ _ _. refl) (λ _. refl)
 handles_skips n p s r (Restored ∷ rest) = refl
 
 pub along_handle : {S : Type 0} (n : ℕ) (c : Core S) (s r : ℕ) (l : List Control) → back_of (core_handled c (handles n c.protocol s r l)) ≡ back_of c

@@ -6,10 +6,10 @@ use Rattle.std.proofs.lemmas.Bool.{cond_both, and_parts, and_left, ne_eqb, eqb-t
 use Rattle.mpi_words.specs.declared.control.Control.{Control}
 use Rattle.mpi_words.specs.declared.control.Control.TheVariants.{Request, Count, Ready, Stop, Stopped, Restored}
 use Rattle.core_laws.specs.Rows.{set_at}
-use Rattle.core_laws.specs.Protocol.{Wave, Protocol, move_told, move_pop, move_stop, move_note_ready, move_note_stopped, move_tell_stop, move_commit}
+use Rattle.core_laws.specs.Protocol.{Wave, Protocol, move_told, move_pop, move_stop}
 use Rattle.core_laws.specs.Process.{Rank, Ranks}
 use Rattle.core_laws.specs.Quiet.{Event, Turn, Deliver, Handle, Begin_wave}
-use Rattle.core_laws.specs.Handling.{handles, all_below}
+use Rattle.core_laws.specs.Handling.{handles}
 use Rattle.core_laws.specs.Core.{Core, step_of, steps_of, core_delivers, core_handled, accepts}
 use Rattle.core_laws.specs.CoreEvents.{Single, Sweep, Kill, Session_event, Core_does, Restart, session_of, session_next_of, start_of, restart_from, below, times, row_events, pair_events, sweep_events}
 use Rattle.core_laws.specs.Invariant.{Invariant, UpKept, bit}
@@ -20,6 +20,7 @@ use Rattle.core_laws.proofs.SweepStages.{keeps_next, staged_first, staged_sessio
 use Rattle.core_laws.proofs.EventsKept.{may_come}
 use Rattle.core_laws.proofs.PromptKept.{wave_then_ready}
 use Rattle.core_laws.proofs.SweepTracks.{Rises, line_step, wave_delivers}
+use Rattle.core_laws.proofs.Noting.{ready_cases, stopped_cases}
 
 -- Where no wave is under way a control or a delivery commits nothing and begins none.
 abbrev Idle : Wave → Wave → Type 0
@@ -32,7 +33,7 @@ idle_handles : (n : ℕ) (p : Protocol) (s r : ℕ) (c : List Control) → s < n
 idle_handles n p s r [] a is inv h = (refl, h)
 idle_handles n p s r (Request l ∷ rest) a is inv h = (refl, h)
 idle_handles n p s r (Count l k ∷ rest) a is inv h = subst (Idle p.wave) (sym (wave_then_ready n (move_told p s r k rest) r)) (refl, h)
-idle_handles n p s r (Ready l ∷ rest) a is inv h = let p' = move_note_ready p s r rest in cond_both (all_below n p'.wave.ready) (move_tell_stop p') p' (λ (q : Protocol). Idle p.wave q.wave) (λ e. (refl, h)) (λ e. (refl, h))
+idle_handles n p s r (Ready l ∷ rest) a is inv h = ready_cases n p s r l rest (λ (q : Protocol). Idle p.wave q.wave) (λ _ _. (refl, h)) (λ _ _. (refl, h)) (λ _. (refl, h))
 idle_handles n p s r (Stop l ∷ rest) a is inv h = cond_both (p.layer r).logging (move_stop (move_pop p s r rest) r) (move_pop p s r rest) (λ (q : Protocol). Idle p.wave q.wave) (λ e. (refl, h)) (λ e. (refl, h))
 idle_handles n p s r (Stopped l ∷ rest) a is inv h = absurd (none_stopped p.wave.line (p.wave.ready s) (p.wave.stopped s) (p.layer s).epoch (p.layer s).logging (p.layer s).was_ready l rest
     (omega (arith, (inv.kept.rank s a).most, ap bit h))
@@ -48,9 +49,9 @@ ends_handles : (n : ℕ) (p : Protocol) (s r : ℕ) (c : List Control) → Ends 
 ends_handles n p s r [] = Stays refl
 ends_handles n p s r (Request l ∷ rest) = Stays refl
 ends_handles n p s r (Count l k ∷ rest) = Stays (ap (λ w. w.line) (wave_then_ready n (move_told p s r k rest) r))
-ends_handles n p s r (Ready l ∷ rest) = let p' = move_note_ready p s r rest in cond_both (all_below n p'.wave.ready) (move_tell_stop p') p' (λ (q : Protocol). Ends p.wave q.wave) (λ e. Stays refl) (λ e. Stays refl)
+ends_handles n p s r (Ready l ∷ rest) = ready_cases n p s r l rest (λ (q : Protocol). Ends p.wave q.wave) (λ _ _. Stays refl) (λ _ _. Stays refl) (λ _. Stays refl)
 ends_handles n p s r (Stop l ∷ rest) = cond_both (p.layer r).logging (move_stop (move_pop p s r rest) r) (move_pop p s r rest) (λ (q : Protocol). Ends p.wave q.wave) (λ e. Stays refl) (λ e. Stays refl)
-ends_handles n p s r (Stopped l ∷ rest) = let p' = move_note_stopped p s r rest in cond_both (all_below n p'.wave.stopped) (move_commit p') p' (λ (q : Protocol). Ends p.wave q.wave) (λ e. Commits refl refl) (λ e. Stays refl)
+ends_handles n p s r (Stopped l ∷ rest) = stopped_cases n p s r l rest (λ (q : Protocol). Ends p.wave q.wave) (λ _ _. Commits refl refl) (λ _ _. Stays refl) (λ _. Stays refl)
 ends_handles n p s r (Restored ∷ rest) = Stays refl
 
 -- The events of a sweep.

@@ -11,7 +11,7 @@ use Rattle.core_laws.specs.Protocol.{Packet, Layer, Protocol, Class, Late, Intra
 use Rattle.core_laws.specs.Process.{Ranks, ranks, Process, Rank, Did, Nothing, Sent, Local, Marked, Turned}
 use Rattle.core_laws.specs.Quiet.{Event, Turn, Deliver, Handle, Begin_wave}
 use Rattle.core_laws.specs.Written.{Written, written_turn, written_arrive}
-use Rattle.core_laws.specs.Handling.{after_save, after_stop, all_below, handles, then_ready, then_stop, ready_due, stops_at, protocol_after}
+use Rattle.core_laws.specs.Handling.{after_save, after_stop, all_below, handles, notes, then_commit, then_ready, then_stop, ready_due, stops_at, protocol_after}
 use Rattle.core_laws.specs.Invariant.{DownKept, Invariant, bit}
 use Rattle.core_laws.specs.Replay.{Replaying, may_turn}
 use Rattle.core_laws.specs.Core.{Core, is_back, then_restored, one_turned, core_turned, accepts, landed, core_arrived, core_delivers, core_handled, may_begin, core_began, step_of, steps_of, last_line}
@@ -29,6 +29,8 @@ use Rattle.core_laws.proofs.CommittedLine.{committed_saved}
 use Rattle.core_laws.proofs.CoreReplay.{restored_wave}
 use Rattle.core_laws.proofs.CoreKept.{step_kept}
 use Rattle.core_laws.proofs.PausingCore.{NoTurn, step_still, no_sweep}
+use Rattle.core_laws.proofs.EventsKept.{stopped_comes}
+use Rattle.core_laws.proofs.Noting.{ready_cases}
 
 -- what is needed of the core
 pub record Sound {S : Type 0} (n : ℕ) (c : Core S) : Type 0 where
@@ -292,8 +294,10 @@ control_filed n f c s r (Request l ∷ rest) a b is sound h = handled_same n f c
 control_filed n f c s r (Count l k ∷ rest) a b is sound h = let q = move_told c.protocol s r k rest in handled_same n f c (then_ready n q r) (ap (λ w. w.line) (ready_wave n q r))
     (λ x. flags_trans (c.protocol.layer x) (q.layer x) ((then_ready n q r).layer x) (flags_set c.protocol.layer r (record (c.protocol.layer r) { told = set_at (c.protocol.layer r).told s (Some k) }) (record { epoch = refl; logging = refl }) x) (flags_ready n q r x)) h
 control_filed n f c s r (Ready l ∷ rest) a b is sound h = let q = move_note_ready c.protocol s r rest in
-    cond_both (all_below n q.wave.ready) (move_tell_stop q) q (λ p. LinesFiled n f (core_handled c p))
-    (λ e. handled_same n f c (move_tell_stop q) refl (λ x. flags_refl (c.protocol.layer x)) h) (λ e. handled_same n f c q refl (λ x. flags_refl (c.protocol.layer x)) h)
+    ready_cases n c.protocol s r l rest (λ p. LinesFiled n f (core_handled c p))
+    (λ _ _. handled_same n f c (move_tell_stop q) refl (λ x. flags_refl (c.protocol.layer x)) h)
+    (λ _ _. handled_same n f c q refl (λ x. flags_refl (c.protocol.layer x)) h)
+    (λ _. handled_same n f c (move_pop c.protocol s r rest) refl (λ x. flags_refl (c.protocol.layer x)) h)
 control_filed {S} n f c s r (Stop l ∷ rest) a b is sound h = go (c.protocol.layer r).logging
   where
     q : Protocol
@@ -306,7 +310,7 @@ control_filed n f c s r (Restored ∷ rest) a b is sound h = handled_same n f c 
 control_filed {S} n f c s r (Stopped l ∷ rest) a b is sound h = ⊎_elim
     (λ e. subst (λ k. LinesFiled n (with_effects f k) (core_handled c (handles n c.protocol s r (Stopped l ∷ rest)))) (sym (cond-true (all_below n q.wave.stopped) one none e)) (commits e))
     (λ e. subst (λ k. LinesFiled n (with_effects f k) (core_handled c (handles n c.protocol s r (Stopped l ∷ rest)))) (sym (cond-false (all_below n q.wave.stopped) one none e))
-    (subst (λ p. LinesFiled n f (core_handled c p)) (sym (cond-false (all_below n q.wave.stopped) (move_commit q) q e)) (handled_same n f c q refl (λ x. flags_refl (c.protocol.layer x)) h)))
+    (subst (λ p. LinesFiled n f (core_handled c p)) (sym (noted ∙ cond-false (all_below n q.wave.stopped) (move_commit q) q e)) (handled_same n f c q refl (λ x. flags_refl (c.protocol.layer x)) h)))
     (cases_Bool (all_below n q.wave.stopped))
   where
     q : Protocol
@@ -314,6 +318,9 @@ control_filed {S} n f c s r (Stopped l ∷ rest) a b is sound h = ⊎_elim
 
     p' : Protocol
     p' = handles n c.protocol s r (Stopped l ∷ rest)
+
+    noted : p' ≡ then_commit n q
+    noted = cond-true (notes c.protocol.wave l (c.protocol.wave.stopped s)) (then_commit n q) (move_pop c.protocol s r rest) (stopped_comes n c.protocol s r l rest a is sound.protocol)
 
     one : List (Effect S)
     one = Commits (suc c.protocol.wave.line) ∷ []
@@ -331,7 +338,7 @@ control_filed {S} n f c s r (Stopped l ∷ rest) a b is sound h = ⊎_elim
     }
       where
         is_commit : p' ≡ move_commit q
-        is_commit = cond-true (all_below n q.wave.stopped) (move_commit q) q e
+        is_commit = noted ∙ cond-true (all_below n q.wave.stopped) (move_commit q) q e
 
         line : p'.wave.line ≡ suc c.protocol.wave.line
         line = ap (λ z. z.wave.line) is_commit

@@ -10,7 +10,7 @@ use Rattle.mpi_words.specs.declared.control.Control.{Control}
 use Rattle.mpi_words.specs.declared.control.Control.TheVariants.{Request, Count, Ready, Stop, Stopped, Restored}
 use Rattle.mpi_words.specs.declared.message.Message.{Message}
 use Rattle.core_laws.specs.Rows.{set_at}
-use Rattle.core_laws.specs.Protocol.{Packet, Layer, Protocol, Class, Late, Intra, Early, layer_arrive, class_of, layer_save, layer_send, restarted, move_send, move_skip, move_save, move_arrive, move_ready, move_stop, move_pop, move_asked, move_told, move_note_ready, move_note_stopped, move_tell_stop, move_commit, move_start, move_tell_restored}
+use Rattle.core_laws.specs.Protocol.{Packet, Layer, Protocol, Class, Late, Intra, Early, layer_arrive, class_of, layer_save, layer_send, restarted, move_send, move_skip, move_save, move_arrive, move_ready, move_stop, move_pop, move_asked, move_told, move_start, move_tell_restored}
 use Rattle.core_laws.specs.Process.{ranks, Process, Rank, Did, Nothing, Sent, Local, Marked, Turned, turn, arrive, is_operation}
 use Rattle.core_laws.specs.Quiet.{Event, Turn, Deliver, Handle, Begin_wave, quiet_start_of}
 use Rattle.core_laws.specs.Written.{Written, written_turn, written_arrive}
@@ -39,6 +39,7 @@ use Rattle.core_laws.proofs.CommittedLine.{committed_saved}
 use Rattle.core_laws.proofs.CoreReplay.{restored_wave, along_handle}
 use Rattle.core_laws.proofs.CoreKept.{turn_kept, deliver_kept, handle_kept, begin_kept, start_kept, restart_kept, restart_path, kept_live}
 use Rattle.core_laws.proofs.PausedTurns.{TurnsPausing, Operates, Goes_on, turns_pausing}
+use Rattle.core_laws.proofs.Noting.{ready_cases, stopped_cases}
 
 -- The epochs that a change leaves.
 abbrev Epochs : Protocol → Protocol → Type 0
@@ -68,10 +69,10 @@ epochs_handles : (n : ℕ) (p : Protocol) (s r : ℕ) (c : List Control) → Epo
 epochs_handles n p s r [] x = refl
 epochs_handles n p s r (Request l ∷ rest) x = epochs_set p (move_asked p s r rest) r (record (p.layer r) { asked = true }) refl refl x
 epochs_handles n p s r (Count l k ∷ rest) x = epochs_ready n (move_told p s r k rest) r x ∙ epochs_set p (move_told p s r k rest) r (record (p.layer r) { told = set_at (p.layer r).told s (Some k) }) refl refl x
-epochs_handles n p s r (Ready l ∷ rest) x = cond_both (all_below n (move_note_ready p s r rest).wave.ready) (move_tell_stop (move_note_ready p s r rest)) (move_note_ready p s r rest) (λ z. (z.layer x).epoch ≡ (p.layer x).epoch) (λ e. refl) (λ e. refl)
+epochs_handles n p s r (Ready l ∷ rest) x = ready_cases n p s r l rest (λ z. (z.layer x).epoch ≡ (p.layer x).epoch) (λ _ _. refl) (λ _ _. refl) (λ _. refl)
 epochs_handles n p s r (Stop l ∷ rest) x = cond_both (p.layer r).logging (move_stop (move_pop p s r rest) r) (move_pop p s r rest) (λ z. (z.layer x).epoch ≡ (p.layer x).epoch)
     (λ e. epochs_set (move_pop p s r rest) (move_stop (move_pop p s r rest) r) r (record (p.layer r) { logging = false }) refl refl x) (λ e. refl)
-epochs_handles n p s r (Stopped l ∷ rest) x = cond_both (all_below n (move_note_stopped p s r rest).wave.stopped) (move_commit (move_note_stopped p s r rest)) (move_note_stopped p s r rest) (λ z. (z.layer x).epoch ≡ (p.layer x).epoch) (λ e. refl) (λ e. refl)
+epochs_handles n p s r (Stopped l ∷ rest) x = stopped_cases n p s r l rest (λ z. (z.layer x).epoch ≡ (p.layer x).epoch) (λ _ _. refl) (λ _ _. refl) (λ _. refl)
 epochs_handles n p s r (Restored ∷ rest) x = refl
 
 -- a turn leaves the layers of the others

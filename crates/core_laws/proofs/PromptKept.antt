@@ -5,7 +5,7 @@ use Rattle.std.proofs.lemmas.Bool.{cond_both, and_right, and_parts, cases_eq, lt
 use Rattle.mpi_words.specs.declared.control.Control.{Control}
 use Rattle.mpi_words.specs.declared.control.Control.TheVariants.{Request, Count, Ready, Stop, Stopped, Restored}
 use Rattle.core_laws.specs.Rows.{set_at, set_pair}
-use Rattle.core_laws.specs.Protocol.{Packet, Layer, Wave, Protocol, Class, Late, Intra, Early, class_of, layer_arrive, layer_send, layer_save, move_send, move_skip, move_save, move_arrive, move_ready, move_stop, move_pop, move_told, move_note_ready, move_note_stopped, move_tell_stop, move_commit, move_tell_restored, restarted}
+use Rattle.core_laws.specs.Protocol.{Packet, Layer, Wave, Protocol, Class, Late, Intra, Early, class_of, layer_arrive, layer_send, layer_save, move_send, move_skip, move_save, move_arrive, move_ready, move_stop, move_pop, move_told, move_note_ready, move_tell_restored, restarted}
 use Rattle.core_laws.specs.Process.{Ranks, Did, Nothing, Sent, Local, Marked}
 use Rattle.core_laws.specs.Quiet.{Event, Turn, Deliver, Handle, Begin_wave}
 use Rattle.core_laws.specs.Handling.{handles, then_ready, then_stop, ready_due, stops_at, all_below, protocol_after}
@@ -18,6 +18,7 @@ use Rattle.core_laws.specs.Sweeps.{Keeps}
 use Rattle.core_laws.proofs.Changes.{set_at-same, set_at-other, each_set, push_pair, push_row, pop_pair, set_pair-other_column}
 use Rattle.core_laws.proofs.QueuesBehind.{behind-more}
 use Rattle.core_laws.proofs.RankMoves
+use Rattle.core_laws.proofs.Noting.{ready_cases, stopped_cases}
 
 -- No rank is due.
 abbrev NoneDue : ℕ → (ℕ → Layer) → Type 0
@@ -66,11 +67,11 @@ due_handles : (n : ℕ) (p : Protocol) (s r : ℕ) (c : List Control) → NoneDu
 due_handles n p s r [] h = h
 due_handles n p s r (Request l ∷ rest) h = due_set n p.layer r (record (p.layer r) { asked = true }) (h r) (λ x b e. h x b)
 due_handles n p s r (Count l k ∷ rest) h = due_then_ready n (move_told p s r k rest) r (others_set n p.layer r (record (p.layer r) { told = set_at (p.layer r).told s (Some k) }) (λ x b e. h x b))
-due_handles n p s r (Ready l ∷ rest) h = let p' = move_note_ready p s r rest in cond_both (all_below n p'.wave.ready) (move_tell_stop p') p' (λ (q : Protocol). NoneDue n q.layer) (λ e. h) (λ e. h)
+due_handles n p s r (Ready l ∷ rest) h = ready_cases n p s r l rest (λ (q : Protocol). NoneDue n q.layer) (λ _ _. h) (λ _ _. h) (λ _. h)
 due_handles n p s r (Stop l ∷ rest) h = cond_both (p.layer r).logging (move_stop (move_pop p s r rest) r) (move_pop p s r rest) (λ (q : Protocol). NoneDue n q.layer)
     (λ e. due_set n p.layer r (record (p.layer r) { logging = false }) (λ b. refl) (λ x b d. h x b))
     (λ e. h)
-due_handles n p s r (Stopped l ∷ rest) h = let p' = move_note_stopped p s r rest in cond_both (all_below n p'.wave.stopped) (move_commit p') p' (λ (q : Protocol). NoneDue n q.layer) (λ e. h) (λ e. h)
+due_handles n p s r (Stopped l ∷ rest) h = stopped_cases n p s r l rest (λ (q : Protocol). NoneDue n q.layer) (λ _ _. h) (λ _ _. h) (λ _. h)
 due_handles n p s r (Restored ∷ rest) h = h
 
 -- Rank 0 has answered what it noted.
@@ -101,13 +102,15 @@ answers_handles : (n : ℕ) (p : Protocol) (s r : ℕ) (c : List Control) → 0 
 answers_handles n p s r [] some h = h
 answers_handles n p s r (Request l ∷ rest) some h = h
 answers_handles n p s r (Count l k ∷ rest) some h = subst (Answers n) (sym (wave_then_ready n (move_told p s r k rest) r)) h
-answers_handles n p s r (Ready l ∷ rest) some h = let p' = move_note_ready p s r rest in cond_both (all_below n p'.wave.ready) (move_tell_stop p') p' (λ (q : Protocol). Answers n q.wave)
-    (λ e. record { noted = λ d. refl; stopped = h.stopped })
-    (λ e. record { noted = λ d. absurd (false≢true (sym e ∙ d)); stopped = h.stopped })
+answers_handles n p s r (Ready l ∷ rest) some h = ready_cases n p s r l rest (λ (q : Protocol). Answers n q.wave)
+    (λ _ _. record { noted = λ d. refl; stopped = h.stopped })
+    (λ _ e. record { noted = λ d. absurd (false≢true (sym e ∙ d)); stopped = h.stopped })
+    (λ _. h)
 answers_handles n p s r (Stop l ∷ rest) some h = cond_both (p.layer r).logging (move_stop (move_pop p s r rest) r) (move_pop p s r rest) (λ (q : Protocol). Answers n q.wave) (λ e. h) (λ e. h)
-answers_handles n p s r (Stopped l ∷ rest) some h = let p' = move_note_stopped p s r rest in cond_both (all_below n p'.wave.stopped) (move_commit p') p' (λ (q : Protocol). Answers n q.wave)
-    (λ e. record { noted = λ d. absurd (false≢true (sym (none_below n some) ∙ d)); stopped = none_below n some })
-    (λ e. record { noted = h.noted; stopped = e })
+answers_handles n p s r (Stopped l ∷ rest) some h = stopped_cases n p s r l rest (λ (q : Protocol). Answers n q.wave)
+    (λ _ _. record { noted = λ d. absurd (false≢true (sym (none_below n some) ∙ d)); stopped = none_below n some })
+    (λ _ e. record { noted = h.noted; stopped = e })
+    (λ _. h)
 answers_handles n p s r (Restored ∷ rest) some h = h
 
 -- Stop was told, and a rank logs yet: a Stop is on its channel.
@@ -167,9 +170,9 @@ stops_handles : (n : ℕ) (p : Protocol) (s r : ℕ) (c : List Control) → p.co
 stops_handles n p s r [] is k h = h
 stops_handles n p s r (Request l ∷ rest) is k h = stop_set n p.wave.stop_told p.layer (set_pair p.control s r rest) r (record (p.layer r) { asked = true }) (λ d. d) (stop_pop n p.wave.stop_told p.layer p.control s r (Request l) rest is refl h)
 stops_handles n p s r (Count l j ∷ rest) is k h = stops_then_ready n (move_told p s r j rest) r (stop_set n p.wave.stop_told p.layer (set_pair p.control s r rest) r (record (p.layer r) { told = set_at (p.layer r).told s (Some j) }) (λ d. d) (stop_pop n p.wave.stop_told p.layer p.control s r (Count l j) rest is refl h))
-stops_handles n p s r (Ready l ∷ rest) is k h = let p' = move_note_ready p s r rest in cond_both (all_below n p'.wave.ready) (move_tell_stop p') p' (Stops n)
-    (λ e t x b d. subst (λ g. 1 ≤ stops_on (g x)) (sym (set_at-same p'.control 0 (λ y. p'.control 0 y ++ Stop (suc p.wave.line) ∷ []))) (omega (arith, behind-more (kind 2) (p'.control 0 x) (Stop (suc p.wave.line)))))
-    (λ e. stop_pop n p.wave.stop_told p.layer p.control s r (Ready l) rest is refl h)
+stops_handles n p s r (Ready l ∷ rest) is k h = let p' = move_note_ready p s r rest in let popped = stop_pop n p.wave.stop_told p.layer p.control s r (Ready l) rest is refl h in ready_cases n p s r l rest (Stops n)
+    (λ _ e t x b d. subst (λ g. 1 ≤ stops_on (g x)) (sym (set_at-same p'.control 0 (λ y. p'.control 0 y ++ Stop (suc p.wave.line) ∷ []))) (omega (arith, behind-more (kind 2) (p'.control 0 x) (Stop (suc p.wave.line)))))
+    (λ _ _. popped) (λ _. popped)
 stops_handles n p s r (Stop l ∷ rest) is k h = cond_both (p.layer r).logging (move_stop (move_pop p s r rest) r) (move_pop p s r rest) (Stops n)
     (λ e t. each_set (λ x v. x < n → v.logging ≡ true → 1 ≤ stops_on ((move_stop (move_pop p s r rest) r).control 0 x)) p.layer r (record (p.layer r) { logging = false })
     (λ b d. absurd (false≢true d))
@@ -178,9 +181,9 @@ stops_handles n p s r (Stop l ∷ rest) is k h = cond_both (p.layer r).logging (
   where
     other : p.wave.stop_told ≡ true → (x : ℕ) → (x ≡ r → ⊥) → x < n → (p.layer x).logging ≡ true → 1 ≤ stops_on (set_pair p.control s r rest 0 x)
     other t x d b g = subst (λ c. 1 ≤ stops_on c) (sym (set_pair-other_column p.control s r rest 0 x d)) (h t x b g)
-stops_handles n p s r (Stopped l ∷ rest) is k h = let p' = move_note_stopped p s r rest in cond_both (all_below n p'.wave.stopped) (move_commit p') p' (Stops n)
-    (λ e t. absurd (false≢true t))
-    (λ e. stop_pop n p.wave.stop_told p.layer p.control s r (Stopped l) rest is refl h)
+stops_handles n p s r (Stopped l ∷ rest) is k h = let popped = stop_pop n p.wave.stop_told p.layer p.control s r (Stopped l) rest is refl h in stopped_cases n p s r l rest (Stops n)
+    (λ _ _ t. absurd (false≢true t))
+    (λ _ _. popped) (λ _. popped)
 stops_handles n p s r (Restored ∷ rest) is k h = stop_pop n p.wave.stop_told p.layer p.control s r Restored rest is refl h
 
 -- All of it.

@@ -1,11 +1,13 @@
 -- Each move keeps what is kept of one rank, and of its control channels from and to rank 0.
-use Rattle.std.proofs.Common.{◌≡◌, ℕ, suc, ◌≤◌, Bool, true, false, not, List, [], ◌∷◌, ◌++◌, sym, refl, ap, ◌∙◌, subst, ⊎_elim, arith}
+use Rattle.std.proofs.Common.{◌≡◌, ℕ, suc, ◌+◌, ◌≤◌, Bool, true, false, not, List, [], ◌∷◌, ◌++◌, sym, refl, ap, ◌∙◌, subst, ⊎_elim, arith}
 use Rattle.std.specs.Prelude.{◌&&◌, ◌==◌}
 use Rattle.std.proofs.lemmas.Bool.{eqb-true, eq-eqb, ne_eqb, and_parts, and_from, and_left, and_right, cases_lt, not-true, false≢true, true≢false}
 use Rattle.mpi_words.specs.declared.control.Control.{Control}
 use Rattle.mpi_words.specs.declared.control.Control.TheVariants.{Request, Count, Ready, Stop, Stopped, Restored}
 use Rattle.core_laws.proofs.ManyControls.{many-push, many-first}
-use Rattle.core_laws.specs.Invariant.{RankKept, DownKept, UpKept, requests_on, readies_on, stoppeds_on, Timely, bit}
+use Rattle.core_laws.specs.Protocol.{Wave, Layer}
+use Rattle.core_laws.specs.Handling.{notes}
+use Rattle.core_laws.specs.Invariant.{RankKept, DownKept, UpKept, rank_kept, up_kept, requests_on, readies_on, stoppeds_on, Timely, bit}
 
 -- A control that is no Stop, or that comes when all were ready, comes in time.
 abbrev pub Harmless : Bool → Control → Type 0
@@ -178,6 +180,21 @@ up_note_stopped L l ready stopped epoch logging was_ready c h = record { readies
 bit_true : (b : Bool) → 1 ≤ bit b → b ≡ true
 bit_true true h = refl
 bit_true false h = absurd (omega arith)
+
+-- What comes of the line wasn't noted before, and a wave is under way.
+in_wave : (w : Wave) (l : Layer) → (l.epoch == suc w.line) ≡ true → rank_kept w l → w.under_way ≡ true
+in_wave w l e h = bit_true w.under_way (omega (arith, h.most, eqb-true l.epoch (suc w.line) e))
+
+once : (w : Wave) (l k : ℕ) (noted due : Bool) → 1 + k + bit noted ≡ bit due → (due ≡ true → w.under_way ≡ true) → l ≡ suc w.line → notes w l noted ≡ true
+once w l k true due e way at = absurd (omega (arith, e, bit_most due))
+once w l k false true e way at = and_from w.under_way ((l == suc w.line) && true) (way refl) (and_from (l == suc w.line) true (eq-eqb l (suc w.line) at) refl)
+once w l k false false e way at = absurd (omega (arith, e))
+
+pub ready_once : (w : Wave) (l : ℕ) (ready stopped : Bool) (layer : Layer) (c : List Control) → l ≡ suc w.line → rank_kept w layer → up_kept w ready stopped layer (Ready l ∷ c) → notes w l ready ≡ true
+ready_once w l ready stopped layer c at rank up = once w l (readies_on c) ready ((layer.epoch == suc w.line) && layer.was_ready) up.readies (λ e. in_wave w layer (and_parts (layer.epoch == suc w.line) layer.was_ready e).0 rank) at
+
+pub stopped_once : (w : Wave) (l : ℕ) (ready stopped : Bool) (layer : Layer) (c : List Control) → l ≡ suc w.line → rank_kept w layer → up_kept w ready stopped layer (Stopped l ∷ c) → notes w l stopped ≡ true
+stopped_once w l ready stopped layer c at rank up = once w l (stoppeds_on c) stopped ((layer.epoch == suc w.line) && not layer.logging) up.stoppeds (λ e. in_wave w layer (and_parts (layer.epoch == suc w.line) (not layer.logging) e).0 rank) at
 
 pub noted_is_ready : (L : ℕ) (stopped : Bool) (epoch : ℕ) (logging was_ready : Bool) (c : List Control) → UpKept L true stopped epoch logging was_ready c → (epoch ≡ suc L) × (was_ready ≡ true)
 noted_is_ready L stopped epoch logging was_ready c h = let both = and_parts (epoch == suc L) was_ready (bit_true ((epoch == suc L) && was_ready) (omega (arith, h.readies))) in (eqb-true epoch (suc L) both.0, both.1)

@@ -10,7 +10,7 @@ use Rattle.mpi_words.specs.declared.message.Message.{Message}
 use Rattle.core_laws.specs.Rows.{set_at, set_pair}
 use Rattle.core_laws.specs.Protocol.{Packet, Protocol, move_send, move_skip, move_save, move_arrive, move_ready, move_stop, move_pop, move_asked, move_told, move_note_ready, move_note_stopped, move_tell_stop, move_commit, move_start, move_note_restored, told_restored}
 use Rattle.core_laws.specs.Process.{Did, Nothing, Sent, Local, Marked, Process, turn, is_operation}
-use Rattle.core_laws.specs.Handling.{handles, then_ready, then_stop, ready_due, stops_at, all_below, protocol_after}
+use Rattle.core_laws.specs.Handling.{handles, then_ready, then_stop, ready_due, stops_at, protocol_after}
 use Rattle.core_laws.specs.Replay.{Replaying}
 use Rattle.core_laws.specs.Invariant.{Allowed, Invariant, bit}
 use Rattle.core_laws.specs.Core.{restores, is_back, then_restored, one_turned, landed}
@@ -18,6 +18,7 @@ use Rattle.core_laws.specs.Kept.{Tells}
 use Rattle.core_laws.specs.Invariant.{tells_on}
 use Rattle.core_laws.proofs.ManyControls.{many-push, many-first}
 use Rattle.core_laws.proofs.Changes.{at_set, push_pair, push_row, pop_pair, set_pair-here, set_pair-other_row}
+use Rattle.core_laws.proofs.Noting.{ready_cases, stopped_cases}
 
 -- a change that tells nothing of this
 record Silent (n : ℕ) (p p' : Protocol) : Type 0 where
@@ -133,17 +134,19 @@ tells_handle n one p s r (Request l ∷ rest) a is i h = tells_silent n one p (m
 tells_handle n one p s r (Count l k ∷ rest) a is i h = tells_silent n one p (then_ready n (move_told p s r k rest) r)
     (silent_trans n p (move_told p s r k rest) (then_ready n (move_told p s r k rest) r) (silent_pop n p (move_told p s r k rest) s r (Count l k) rest refl is refl refl (λ w. w)) (silent_ready n (move_told p s r k rest) r)) h
 tells_handle n one p s r (Ready l ∷ rest) a is i h = let q = move_note_ready p s r rest in let popped = silent_pop n p q s r (Ready l) rest refl is refl refl (λ w. w) in
-    cond_both (all_below n q.wave.ready) (move_tell_stop q) q (Tells n one)
-    (λ e. tells_silent n one p (move_tell_stop q) (silent_trans n p q (move_tell_stop q) popped (silent_row n q (move_tell_stop q) 0 (λ x. Stop (suc p.wave.line)) (λ y. refl) refl refl (λ w. w))) h)
-    (λ e. tells_silent n one p q popped h)
+    ready_cases n p s r l rest (Tells n one)
+    (λ _ _. tells_silent n one p (move_tell_stop q) (silent_trans n p q (move_tell_stop q) popped (silent_row n q (move_tell_stop q) 0 (λ x. Stop (suc p.wave.line)) (λ y. refl) refl refl (λ w. w))) h)
+    (λ _ _. tells_silent n one p q popped h)
+    (λ _. tells_silent n one p (move_pop p s r rest) (silent_pop n p (move_pop p s r rest) s r (Ready l) rest refl is refl refl (λ w. w)) h)
 tells_handle n one p s r (Stop l ∷ rest) a is i h = let q = move_pop p s r rest in let popped = silent_pop n p q s r (Stop l) rest refl is refl refl (λ w. w) in
     cond_both (p.layer r).logging (move_stop q r) q (Tells n one)
     (λ e. tells_silent n one p (move_stop q r) (silent_trans n p q (move_stop q r) popped (silent_stop n q r)) h)
     (λ e. tells_silent n one p q popped h)
 tells_handle n one p s r (Stopped l ∷ rest) a is i h = let q = move_note_stopped p s r rest in
-    cond_both (all_below n q.wave.stopped) (move_commit q) q (Tells n one)
-    (λ e. tells_silent n one p (move_commit q) (silent_pop n p (move_commit q) s r (Stopped l) rest refl is refl refl (λ w. absurd (false≢true w))) h)
-    (λ e. tells_silent n one p q (silent_pop n p q s r (Stopped l) rest refl is refl refl (λ w. w)) h)
+    stopped_cases n p s r l rest (Tells n one)
+    (λ _ _. tells_silent n one p (move_commit q) (silent_pop n p (move_commit q) s r (Stopped l) rest refl is refl refl (λ w. absurd (false≢true w))) h)
+    (λ _ _. tells_silent n one p q (silent_pop n p q s r (Stopped l) rest refl is refl refl (λ w. w)) h)
+    (λ _. tells_silent n one p (move_pop p s r rest) (silent_pop n p (move_pop p s r rest) s r (Stopped l) rest refl is refl refl (λ w. w)) h)
 tells_handle {S} n one p s r (Restored ∷ rest) a is i h = subst (λ z. p.control s z ≡ Restored ∷ rest → Tells n one (move_note_restored p s z rest)) (sym from) noted is
   where
     from : r ≡ 0

@@ -5,7 +5,7 @@ use Rattle.std.proofs.lemmas.Bool.{cond_both, and_parts, and_from, not-true, not
 use Rattle.mpi_words.specs.declared.control.Control.{Control}
 use Rattle.mpi_words.specs.declared.control.Control.TheVariants.{Request, Count, Ready, Stop, Stopped, Restored}
 use Rattle.core_laws.specs.Rows.{set_at, set_pair}
-use Rattle.core_laws.specs.Protocol.{Packet, Layer, Wave, Protocol, Class, Late, Intra, Early, class_of, layer_arrive, layer_send, move_send, move_skip, move_save, move_arrive, move_ready, move_stop, move_pop, move_told, move_note_ready, move_note_stopped, move_tell_stop, move_commit, move_tell_restored}
+use Rattle.core_laws.specs.Protocol.{Packet, Layer, Wave, Protocol, Class, Late, Intra, Early, class_of, layer_arrive, layer_send, move_send, move_skip, move_save, move_arrive, move_ready, move_stop, move_pop, move_told, move_note_ready, move_note_stopped, move_tell_stop, move_tell_restored}
 use Rattle.core_laws.specs.Process.{Ranks, Did, Nothing, Sent, Local, Marked}
 use Rattle.core_laws.specs.Quiet.{Event, Turn, Deliver, Handle, Begin_wave}
 use Rattle.core_laws.specs.Handling.{handles, then_ready, then_stop, ready_due, is_told, stops_at, all_below, protocol_after}
@@ -21,6 +21,7 @@ use Rattle.core_laws.proofs.EventsKept.{may_come}
 use Rattle.core_laws.proofs.RestoredTold.{back_is, noted_back}
 use Rattle.core_laws.proofs.QueuesBehind.{all_push_pair, all_push_row, all_pop, all_none, kind_ready, kind_stop, kind_stopped, of_other}
 use Rattle.core_laws.proofs.PromptKept.{skipped, arrived_at, asked_once, wave_after, wave_arrived, wave_then_ready}
+use Rattle.core_laws.proofs.Noting.{ready_cases, stopped_cases}
 
 -- A change of one layer that neither saves nor goes back.
 record Goes (l v : Layer) : Type 0 where
@@ -123,9 +124,10 @@ track_handles n i L k d p s r (Request l ∷ rest) a b is inv h = let popped = t
 track_handles n i L k d p s r (Count l j ∷ rest) a b is inv h = let popped = track_pop n i L k d p s r (Count l j) rest is h in
     Goes_on (track_then_ready n i L k d (move_told p s r j rest) r b
     (record { wave = in_set n i L p.layer p.wave r (record (p.layer r) { told = set_at (p.layer r).told s (Some j) }) (record { epoch = refl; ready = λ f. f; stopped = λ f. f }) h.wave; controls = popped.controls; packets = popped.packets }))
-track_handles n i L k d p s r (Ready l ∷ rest) a b is inv h = cond_both (all_below n p'.wave.ready) (move_tell_stop p') p' (Tracked n i L k d)
-    (λ e. Goes_on (record { wave = in_wave n i L p.layer p.wave (move_tell_stop p').wave refl refl (λ _. refl) h.wave; controls = all_push_row (kind i) n k p'.control 0 (λ y. Stop (suc p.wave.line)) (λ y. kind_stop i (suc p.wave.line) untold) popped.controls; packets = popped.packets }))
-    (λ e. Goes_on (record { wave = in_wave n i L p.layer p.wave p'.wave refl refl (λ t. t) h.wave; controls = popped.controls; packets = popped.packets }))
+track_handles n i L k d p s r (Ready l ∷ rest) a b is inv h = ready_cases n p s r l rest (Tracked n i L k d)
+    (λ _ _. Goes_on (record { wave = in_wave n i L p.layer p.wave (move_tell_stop p').wave refl refl (λ _. refl) h.wave; controls = all_push_row (kind i) n k p'.control 0 (λ y. Stop (suc p.wave.line)) (λ y. kind_stop i (suc p.wave.line) untold) popped.controls; packets = popped.packets }))
+    (λ _ _. Goes_on (record { wave = in_wave n i L p.layer p.wave p'.wave refl refl (λ t. t) h.wave; controls = popped.controls; packets = popped.packets }))
+    (λ _. Goes_on popped)
   where
     p' : Protocol
     p' = move_note_ready p s r rest
@@ -142,9 +144,10 @@ track_handles n i L k d p s r (Stop l ∷ rest) a b is inv h = let popped = trac
     (λ e. Goes_on (track_stop n i L k d (move_pop p s r rest) r b e popped))
     (λ e. Goes_on popped)
 track_handles n i L k d p s r (Stopped l ∷ rest) a b is inv h = let p' = move_note_stopped p s r rest in let popped = track_pop n i L k d p s r (Stopped l) rest is h in
-    cond_both (all_below n p'.wave.stopped) (move_commit p') p' (Tracked n i L k d)
-    (λ e. Over (omega (arith, h.wave.line)))
-    (λ e. Goes_on (record { wave = in_wave n i L p.layer p.wave p'.wave refl refl (λ t. t) h.wave; controls = popped.controls; packets = popped.packets }))
+    stopped_cases n p s r l rest (Tracked n i L k d)
+    (λ _ _. Over (omega (arith, h.wave.line)))
+    (λ _ _. Goes_on (record { wave = in_wave n i L p.layer p.wave p'.wave refl refl (λ t. t) h.wave; controls = popped.controls; packets = popped.packets }))
+    (λ _. Goes_on popped)
 track_handles n i L k d p s r (Restored ∷ rest) a b is inv h = let popped = track_pop n i L k d p s r Restored rest is h in Goes_on (record { wave = popped.wave; controls = popped.controls; packets = popped.packets })
 
 -- In a wave no rank restores: where none is killed each event is to be taken.
@@ -218,9 +221,9 @@ pub line_handles : (n : ℕ) (p : Protocol) (s r : ℕ) (c : List Control) → R
 line_handles n p s r [] = (omega arith, omega arith)
 line_handles n p s r (Request l ∷ rest) = (omega arith, omega arith)
 line_handles n p s r (Count l k ∷ rest) = same_line p.wave (then_ready n (move_told p s r k rest) r).wave (wave_then_ready n (move_told p s r k rest) r)
-line_handles n p s r (Ready l ∷ rest) = let p' = move_note_ready p s r rest in cond_both (all_below n p'.wave.ready) (move_tell_stop p') p' (λ (q : Protocol). Rises p.wave q.wave) (λ e. (omega arith, omega arith)) (λ e. (omega arith, omega arith))
+line_handles n p s r (Ready l ∷ rest) = ready_cases n p s r l rest (λ (q : Protocol). Rises p.wave q.wave) (λ _ _. (omega arith, omega arith)) (λ _ _. (omega arith, omega arith)) (λ _. (omega arith, omega arith))
 line_handles n p s r (Stop l ∷ rest) = cond_both (p.layer r).logging (move_stop (move_pop p s r rest) r) (move_pop p s r rest) (λ (q : Protocol). Rises p.wave q.wave) (λ e. (omega arith, omega arith)) (λ e. (omega arith, omega arith))
-line_handles n p s r (Stopped l ∷ rest) = let p' = move_note_stopped p s r rest in cond_both (all_below n p'.wave.stopped) (move_commit p') p' (λ (q : Protocol). Rises p.wave q.wave) (λ e. (omega arith, omega arith)) (λ e. (omega arith, omega arith))
+line_handles n p s r (Stopped l ∷ rest) = stopped_cases n p s r l rest (λ (q : Protocol). Rises p.wave q.wave) (λ _ _. (omega arith, omega arith)) (λ _ _. (omega arith, omega arith)) (λ _. (omega arith, omega arith))
 line_handles n p s r (Restored ∷ rest) = (omega arith, omega arith)
 
 pub restored_line : (was now : Bool) (p : Protocol) (r : ℕ) → (then_restored was now p r).wave ≡ p.wave

@@ -8,10 +8,10 @@ use Rattle.mpi_words.specs.declared.control.Control.{Control}
 use Rattle.mpi_words.specs.declared.control.Control.TheVariants.{Request, Count, Ready, Stop, Stopped, Restored}
 use Rattle.mpi_words.specs.declared.message.Message.{Message}
 use Rattle.core_laws.specs.Rows.{set_at, set_pair}
-use Rattle.core_laws.specs.Protocol.{Packet, Layer, Protocol, Class, Late, Intra, Early, layer_arrive, layer_send, layer_save, class_of, move_send, move_save, move_arrive, move_ready, move_stop, move_pop, move_told, move_note_ready, move_note_stopped, move_tell_stop, move_commit, move_skip, move_note_restored, early_more, is_late}
+use Rattle.core_laws.specs.Protocol.{Packet, Layer, Protocol, Class, Late, Intra, Early, layer_arrive, layer_send, layer_save, class_of, move_send, move_save, move_arrive, move_ready, move_stop, move_pop, move_told, move_note_ready, move_note_stopped, move_tell_stop, move_skip, move_note_restored, early_more, is_late}
 use Rattle.core_laws.specs.Process.{Turned, is_operation, Process, Rank, Did, Nothing, Sent, Local, Marked, turn, arrive}
 use Rattle.core_laws.specs.Written.{Written, written_turn, written_arrive}
-use Rattle.core_laws.specs.Handling.{written_delivered, handles, then_ready, then_stop, ready_due, stops_at, all_below, protocol_after}
+use Rattle.core_laws.specs.Handling.{written_delivered, handles, then_ready, then_stop, ready_due, stops_at, protocol_after}
 use Rattle.core_laws.specs.Quiet.{Quiet, Turn, Deliver, sends, quiet_next, quiet_arrives, IsReached}
 use Rattle.core_laws.specs.Invariant.{Kept, PairKept, Invariant, in_of, out_of, on_channel, up_kept}
 use Rattle.core_laws.specs.Stopping.{has_stopped, is_after, contents}
@@ -28,6 +28,7 @@ use Rattle.core_laws.proofs.RankMoves
 use Rattle.core_laws.proofs.EventsKept.{inv_then_stop}
 use Rattle.core_laws.proofs.QuietRuns.{reached_next, set_pair-map, not_stopped, none_after, contents-push, after_wave, asked_at, safe_then_stop, then_stop-channel, contents_of, stopped_in, turned}
 use Rattle.core_laws.proofs.CutLines.{fits_turn, fits_arrive, stands_turn, stands_arrive, packet_sends, cut_turned, pair_line}
+use Rattle.core_laws.proofs.Noting.{ready_cases, stopped_cases}
 
 -- A change of the protocol that in a wave leaves the channels, stops nobody's being stopped, and changes no early count before a save.
 pub record CalmLayer (L : ℕ) (l l' : Layer) : Type 0 where
@@ -91,15 +92,17 @@ calm_handles n p s r (Request l ∷ rest) = record { channel = λ w s r a b. ref
 calm_handles n p s r (Count l k ∷ rest) = calm_trans n p (move_told p s r k rest) (then_ready n (move_told p s r k rest) r)
     (record { channel = λ w s r a b. refl; wave = λ w. (w, refl, λ x b. calm_set p.wave.line p.layer r (record (p.layer r) { told = set_at (p.layer r).told s (Some k) }) (record { on = λ d. d; unsaved = λ d. (d, λ s. refl) }) x) })
     (calm_then_ready n (move_told p s r k rest) r)
-calm_handles n p s r (Ready l ∷ rest) = cond_both (all_below n (move_note_ready p s r rest).wave.ready) (move_tell_stop (move_note_ready p s r rest)) (move_note_ready p s r rest) (Calm n p)
-    (λ e. calm_refl n p (move_tell_stop (move_note_ready p s r rest)) refl refl (λ w. (w, refl)))
-    (λ e. calm_refl n p (move_note_ready p s r rest) refl refl (λ w. (w, refl)))
+calm_handles n p s r (Ready l ∷ rest) = ready_cases n p s r l rest (Calm n p)
+    (λ _ _. calm_refl n p (move_tell_stop (move_note_ready p s r rest)) refl refl (λ w. (w, refl)))
+    (λ _ _. calm_refl n p (move_note_ready p s r rest) refl refl (λ w. (w, refl)))
+    (λ _. calm_refl n p (move_pop p s r rest) refl refl (λ w. (w, refl)))
 calm_handles n p s r (Stop l ∷ rest) = cond_both (p.layer r).logging (move_stop (move_pop p s r rest) r) (move_pop p s r rest) (Calm n p)
     (λ e. calm_trans n p (move_pop p s r rest) (move_stop (move_pop p s r rest) r) (calm_refl n p (move_pop p s r rest) refl refl (λ w. (w, refl))) (calm_stop n (move_pop p s r rest) r e))
     (λ e. calm_refl n p (move_pop p s r rest) refl refl (λ w. (w, refl)))
-calm_handles n p s r (Stopped l ∷ rest) = cond_both (all_below n (move_note_stopped p s r rest).wave.stopped) (move_commit (move_note_stopped p s r rest)) (move_note_stopped p s r rest) (Calm n p)
-    (λ e. record { channel = λ w s r a b. refl; wave = λ w. absurd (false≢true w) })
-    (λ e. calm_refl n p (move_note_stopped p s r rest) refl refl (λ w. (w, refl)))
+calm_handles n p s r (Stopped l ∷ rest) = stopped_cases n p s r l rest (Calm n p)
+    (λ _ _. record { channel = λ w s r a b. refl; wave = λ w. absurd (false≢true w) })
+    (λ _ _. calm_refl n p (move_note_stopped p s r rest) refl refl (λ w. (w, refl)))
+    (λ _. calm_refl n p (move_pop p s r rest) refl refl (λ w. (w, refl)))
 calm_handles n p s r (Restored ∷ rest) = calm_refl n p (move_note_restored p s r rest) refl refl (λ w. (w, refl))
 
 pub ready_wave : (n : ℕ) (p : Protocol) (r : ℕ) → (then_ready n p r).wave ≡ p.wave

@@ -5,7 +5,7 @@ use Rattle.mpi_words.specs.declared.control.Control.TheVariants.{Request, Count,
 use Rattle.mpi_words.specs.declared.label.Label.{Label}
 use Rattle.mpi_words.specs.declared.message.Message.{Message}
 use Rattle.core_laws.specs.Rows.{set_at}
-use Rattle.core_laws.specs.Protocol.{Packet, Layer, Protocol, move_send, move_skip, move_note_restored, move_save, move_ready, move_stop, move_pop, move_asked, move_told, move_note_ready, move_note_stopped, move_tell_stop, move_commit, class_of}
+use Rattle.core_laws.specs.Protocol.{Packet, Layer, Wave, Protocol, move_send, move_skip, move_note_restored, move_save, move_ready, move_stop, move_pop, move_asked, move_told, move_note_ready, move_note_stopped, move_tell_stop, move_commit, class_of}
 use Rattle.core_laws.specs.Process.{Did, Local, Marked, Nothing, Sent}
 use Rattle.core_laws.specs.Written.{Written, written_arrive}
 
@@ -55,12 +55,22 @@ then_stop p r x = if stops_at (p.layer r) x then move_stop p r else p
 abbrev pub written_delivered : {S : Type 0} → (ℕ → Written S) → Protocol → ℕ → ℕ → Packet → ℕ → Written S
 written_delivered w p s r x = set_at w r (written_arrive (after_stop p r) (after_save p r) (class_of (p.layer r).epoch x.1.epoch) (w r) s x.0)
 
+-- Rank 0 notes what names the line of the wave under way, once from each rank. It tells Stop when all are ready, and commits when all have stopped.
+abbrev pub notes : Wave → ℕ → Bool → Bool
+notes w line noted = w.under_way && ((line == suc w.line) && not noted)
+
+abbrev pub then_tell_stop : ℕ → Protocol → Protocol
+then_tell_stop n p = if all_below n p.wave.ready then move_tell_stop p else p
+
+abbrev pub then_commit : ℕ → Protocol → Protocol
+then_commit n p = if all_below n p.wave.stopped then move_commit p else p
+
 -- a control from s to r is handled, the first on its channel
 abbrev pub handles : ℕ → Protocol → ℕ → ℕ → List Control → Protocol
 handles n p s r [] = p
 handles n p s r (Request l ∷ rest) = move_asked p s r rest
 handles n p s r (Count l k ∷ rest) = then_ready n (move_told p s r k rest) r
-handles n p s r (Ready l ∷ rest) = let p' = move_note_ready p s r rest in if all_below n p'.wave.ready then move_tell_stop p' else p'
+handles n p s r (Ready l ∷ rest) = if notes p.wave l (p.wave.ready s) then then_tell_stop n (move_note_ready p s r rest) else move_pop p s r rest
 handles n p s r (Stop l ∷ rest) = if (p.layer r).logging then move_stop (move_pop p s r rest) r else move_pop p s r rest
-handles n p s r (Stopped l ∷ rest) = let p' = move_note_stopped p s r rest in if all_below n p'.wave.stopped then move_commit p' else p'
+handles n p s r (Stopped l ∷ rest) = if notes p.wave l (p.wave.stopped s) then then_commit n (move_note_stopped p s r rest) else move_pop p s r rest
 handles n p s r (Restored ∷ rest) = move_note_restored p s r rest

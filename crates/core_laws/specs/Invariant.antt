@@ -4,6 +4,7 @@ use Rattle.std.specs.List.{AllByRecursion}
 use Rattle.mpi_words.specs.declared.control.Control.{Control}
 use Rattle.mpi_words.specs.declared.control.Control.TheVariants.{Request, Count, Ready, Stop, Stopped, Restored}
 use Rattle.core_laws.specs.Protocol.{Packet, Layer, Wave, Protocol}
+use Rattle.core_laws.specs.Says.{Says}
 
 abbrev pub bit : Bool → ℕ
 bit true = 1
@@ -162,3 +163,4 @@ Allowed s r Restored = r ≡ 0
 pub record Invariant (n : ℕ) (p : Protocol) : Type 0 where
   pub kept : Kept n p
   pub origins : (s r : ℕ) → AllByRecursion (Allowed s r) (p.control s r)
+  pub says : Says n p
