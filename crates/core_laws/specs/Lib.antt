@@ -1,4 +1,5 @@
 pub mod Rows
+pub mod Ties
 pub mod Protocol
 pub mod Invariant
 pub mod Process

@@ -7,6 +7,7 @@
 //! - `Core`, `CoreEvents`, `SessionEnd`: the whole machine, its events, sweeps, kills, restarts and sessions.
 //! - `Effects`, `Files`, `DiskSessions`: what each event writes, the files that keep it, and sessions over files.
 //! - `Pausing`: ranks whose turns may pause.
+//! - `Ties`: when lists of values stand for data per rank.
 //!
 //! and what the laws say of it:
 //!
