@@ -1,7 +1,7 @@
 -- Where an event takes the line on, its effects say so.
 use Rattle.std.proofs.Common.{◌≡◌, ℕ, suc, ◌<◌, Bool, true, false, not, List, [], ◌∷◌, ◌++◌, sym, refl, ap, ◌∙◌, subst, ⊎_elim, arith}
 use Rattle.std.specs.Prelude.{◌&&◌, nat_lt, if◌then◌else◌}
-use Rattle.std.proofs.lemmas.Bool.{cond_both, cond-true, cases_eq}
+use Rattle.std.proofs.lemmas.Bool.{cond_both, cond-true, and_from, cases_eq}
 use Rattle.std.proofs.lemmas.List.{append_assoc}
 use Rattle.mpi_words.specs.declared.control.Control.{Control}
 use Rattle.mpi_words.specs.declared.control.Control.TheVariants.{Request, Count, Ready, Stop, Stopped, Restored}
@@ -9,7 +9,7 @@ use Rattle.core_laws.specs.Rows.{set_at}
 use Rattle.core_laws.specs.Protocol.{Protocol, move_told, move_pop, move_stop}
 use Rattle.core_laws.specs.Process.{Ranks}
 use Rattle.core_laws.specs.Quiet.{Event, Turn, Deliver, Handle, Begin_wave}
-use Rattle.core_laws.specs.Handling.{handles, all_below, protocol_after}
+use Rattle.core_laws.specs.Handling.{notes, handles, all_below, protocol_after}
 use Rattle.core_laws.specs.Replay.{may_turn}
 use Rattle.core_laws.specs.Core.{Core, step_of, steps_of, core_turned, core_delivers, core_handled, core_began, may_begin, accepts, is_back, one_turned}
 use Rattle.core_laws.specs.CoreEvents.{Core_event, Single, Sweep, Kill, next_of, sweep_events}
@@ -32,7 +32,7 @@ handled_commits n c s r (Ready l ∷ rest) h = absurd (omega (arith, h, ready_ca
 handled_commits n c s r (Stop l ∷ rest) h = absurd (omega (arith, h, cond_both (c.protocol.layer r).logging (move_stop (move_pop c.protocol s r rest) r) (move_pop c.protocol s r rest) (λ (q : Protocol). q.wave.line ≡ c.protocol.wave.line) (λ e. refl) (λ e. refl)))
 handled_commits {S} n c s r (Stopped l ∷ rest) h = let one : List (Effect S) = Commits (suc c.protocol.wave.line) ∷ [] in
     stopped_cases n c.protocol s r l rest (λ (q : Protocol). q.wave.line ≡ suc c.protocol.wave.line → Has {A = Effect S} (control_effects n c s r (Stopped l ∷ rest)) (Commits (suc c.protocol.wave.line)))
-    (λ _ e _. subst (λ es. Has {A = Effect S} es (Commits (suc c.protocol.wave.line))) (sym (cond-true (all_below n (set_at c.protocol.wave.stopped s true)) one [] e)) (record { before = []; after = []; split = refl }))
+    (λ noted e _. subst (λ es. Has {A = Effect S} es (Commits (suc c.protocol.wave.line))) (sym (cond-true (notes c.protocol.wave l (c.protocol.wave.stopped s) && all_below n (set_at c.protocol.wave.stopped s true)) one [] (and_from (notes c.protocol.wave l (c.protocol.wave.stopped s)) (all_below n (set_at c.protocol.wave.stopped s true)) noted e))) (record { before = []; after = []; split = refl }))
     (λ _ _ e. absurd (omega (arith, e)))
     (λ _ e. absurd (omega (arith, e)))
     h

@@ -308,8 +308,8 @@ control_filed {S} n f c s r (Stop l ∷ rest) a b is sound h = go (c.protocol.la
     go false = handled_same n f c q refl (λ x. flags_refl (c.protocol.layer x)) h
 control_filed n f c s r (Restored ∷ rest) a b is sound h = handled_same n f c (move_note_restored c.protocol s r rest) refl (λ x. flags_refl (c.protocol.layer x)) h
 control_filed {S} n f c s r (Stopped l ∷ rest) a b is sound h = ⊎_elim
-    (λ e. subst (λ k. LinesFiled n (with_effects f k) (core_handled c (handles n c.protocol s r (Stopped l ∷ rest)))) (sym (cond-true (all_below n q.wave.stopped) one none e)) (commits e))
-    (λ e. subst (λ k. LinesFiled n (with_effects f k) (core_handled c (handles n c.protocol s r (Stopped l ∷ rest)))) (sym (cond-false (all_below n q.wave.stopped) one none e))
+    (λ e. subst (λ k. LinesFiled n (with_effects f k) (core_handled c (handles n c.protocol s r (Stopped l ∷ rest)))) (sym (writes_it ∙ cond-true (all_below n q.wave.stopped) one none e)) (commits e))
+    (λ e. subst (λ k. LinesFiled n (with_effects f k) (core_handled c (handles n c.protocol s r (Stopped l ∷ rest)))) (sym (writes_it ∙ cond-false (all_below n q.wave.stopped) one none e))
     (subst (λ p. LinesFiled n f (core_handled c p)) (sym (noted ∙ cond-false (all_below n q.wave.stopped) (move_commit q) q e)) (handled_same n f c q refl (λ x. flags_refl (c.protocol.layer x)) h)))
     (cases_Bool (all_below n q.wave.stopped))
   where
@@ -319,14 +319,20 @@ control_filed {S} n f c s r (Stopped l ∷ rest) a b is sound h = ⊎_elim
     p' : Protocol
     p' = handles n c.protocol s r (Stopped l ∷ rest)
 
+    comes : notes c.protocol.wave l (c.protocol.wave.stopped s) ≡ true
+    comes = stopped_comes n c.protocol s r l rest a is sound.protocol
+
     noted : p' ≡ then_commit n q
-    noted = cond-true (notes c.protocol.wave l (c.protocol.wave.stopped s)) (then_commit n q) (move_pop c.protocol s r rest) (stopped_comes n c.protocol s r l rest a is sound.protocol)
+    noted = cond-true (notes c.protocol.wave l (c.protocol.wave.stopped s)) (then_commit n q) (move_pop c.protocol s r rest) comes
 
     one : List (Effect S)
     one = Commits (suc c.protocol.wave.line) ∷ []
 
     none : List (Effect S)
     none = []
+
+    writes_it : control_effects n c s r (Stopped l ∷ rest) ≡ (if all_below n q.wave.stopped then one else none)
+    writes_it = ap (λ t. if t && all_below n q.wave.stopped then one else none) comes
 
     commits : all_below n q.wave.stopped ≡ true → LinesFiled n (record f { committed = f.new; line = suc c.protocol.wave.line }) (core_handled c p')
     commits e = record {

@@ -18,7 +18,7 @@ use Rattle.core_laws.specs.Protocol.{Packet, Layer, Protocol, Class, class_of}
 use Rattle.core_laws.specs.Process.{Ranks, ranks, Process, Rank, Want, Wants, Ended, Did, Nothing, Sent, Local, Marked, Turned, turn, acted, received, arrive}
 use Rattle.core_laws.specs.Quiet.{Event, Turn, Deliver, Handle, Begin_wave}
 use Rattle.core_laws.specs.Written.{Written, written_turn, written_arrive}
-use Rattle.core_laws.specs.Handling.{after_save, after_stop, all_below, handles, then_stop, stops_at}
+use Rattle.core_laws.specs.Handling.{notes, after_save, after_stop, all_below, handles, then_stop, stops_at}
 use Rattle.core_laws.specs.Replay.{Replaying, absorb, may_turn}
 use Rattle.core_laws.specs.Core.{Core, one_turned, core_turned, accepts, landed, core_delivers, core_handled, may_begin, core_began, step_of, steps_of}
 use Rattle.core_laws.specs.CoreEvents.{sweep_events, Core_event, Single, Sweep, Kill, next_of, start_of, restart_from, restart_of}
@@ -174,7 +174,7 @@ control_output n f c s r (Count l k ∷ q) = refl
 control_output n f c s r (Ready l ∷ q) = refl
 control_output n f c s r (Restored ∷ q) = refl
 control_output n f c s r (Stop l ∷ q) = log_output f r (c.written r) (c.protocol.layer r).logging
-control_output {S} n f c s r (Stopped l ∷ q) = commits (all_below n (set_at c.protocol.wave.stopped s true))
+control_output {S} n f c s r (Stopped l ∷ q) = commits (notes c.protocol.wave l (c.protocol.wave.stopped s) && all_below n (set_at c.protocol.wave.stopped s true))
   where
     commits : (b : Bool) → (with_effects f (if b then Commits (suc c.protocol.wave.line) ∷ [] else [])).output ≡ f.output
     commits true = refl

@@ -8,7 +8,7 @@ use Rattle.core_laws.specs.Protocol.{Packet, Layer}
 use Rattle.core_laws.specs.Process.{Ranks, Rank, Did, Nothing, Sent, Local, Marked}
 use Rattle.core_laws.specs.Quiet.{Event, Turn, Deliver, Handle, Begin_wave}
 use Rattle.core_laws.specs.Written.{Written}
-use Rattle.core_laws.specs.Handling.{all_below, stops_at}
+use Rattle.core_laws.specs.Handling.{all_below, notes, stops_at}
 use Rattle.core_laws.specs.Replay.{may_turn}
 use Rattle.core_laws.specs.Core.{Core, accepts, step_of}
 use Rattle.core_laws.specs.CoreEvents.{sweep_events, Core_event, Single, Sweep, Kill}
@@ -46,7 +46,7 @@ control_effects n c s r (Request l ∷ rest) = []
 control_effects n c s r (Count l k ∷ rest) = []
 control_effects n c s r (Ready l ∷ rest) = []
 control_effects n c s r (Stop l ∷ rest) = log_effects r (c.written r) (c.protocol.layer r).logging
-control_effects n c s r (Stopped l ∷ rest) = if all_below n (set_at c.protocol.wave.stopped s true) then Commits (suc c.protocol.wave.line) ∷ [] else []
+control_effects n c s r (Stopped l ∷ rest) = if notes c.protocol.wave l (c.protocol.wave.stopped s) && all_below n (set_at c.protocol.wave.stopped s true) then Commits (suc c.protocol.wave.line) ∷ [] else []
 control_effects n c s r (Restored ∷ rest) = []
 
 abbrev pub step_effects_of : {S : Type 0} → Ranks S → ℕ → Core S → Event → List (Effect S)
