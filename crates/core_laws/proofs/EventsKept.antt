@@ -57,7 +57,7 @@ stopped_comes n p s r l rest a is h = RankMoves.stopped_once p.wave l (p.wave.re
     at = ap (p.control s) (sym (may_come n p s r (Stopped l) rest is h)) ∙ is
 
 -- a rank that logs has saved
-logs_saved : (n : ℕ) (p : Protocol) (r : ℕ) → r < n → (p.layer r).logging ≡ true → Kept n p → (p.layer r).epoch ≡ suc p.wave.line
+pub logs_saved : (n : ℕ) (p : Protocol) (r : ℕ) → r < n → (p.layer r).logging ≡ true → Kept n p → (p.layer r).epoch ≡ suc p.wave.line
 logs_saved n p r b e k = RankMoves.logs_at p.wave.line p.wave.under_way p.wave.stop_told (p.layer r).epoch (p.layer r).logging (p.layer r).was_ready e (k.rank r b)
 
 pub inv_then_ready : (n : ℕ) (p : Protocol) (r : ℕ) → r < n → Invariant n p → Invariant n (then_ready n p r)

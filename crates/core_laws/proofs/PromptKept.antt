@@ -155,7 +155,7 @@ stops_after n p r Marked b k h = cond_both (p.layer r).asked (then_ready n (move
     (λ e. stops_then_ready n (move_save p r) r (λ t. absurd (true≢false (sym e ∙ asked_once p.wave.line p.wave.under_way p.wave.stop_told (p.layer r).epoch (p.layer r).asked (p.control 0 r) ((k.rank r b).all_ready t).0 (k.down r b)))))
     (λ e. h)
 
-arrive_logging : (l : Layer) (s : ℕ) (cl : Class) → (layer_arrive l s cl).logging ≡ l.logging
+pub arrive_logging : (l : Layer) (s : ℕ) (cl : Class) → (layer_arrive l s cl).logging ≡ l.logging
 arrive_logging l s Late = refl
 arrive_logging l s Intra = refl
 arrive_logging l s Early = refl

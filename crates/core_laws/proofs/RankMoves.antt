@@ -182,7 +182,7 @@ bit_true true h = refl
 bit_true false h = absurd (omega arith)
 
 -- What comes of the line wasn't noted before, and a wave is under way.
-in_wave : (w : Wave) (l : Layer) → (l.epoch == suc w.line) ≡ true → rank_kept w l → w.under_way ≡ true
+pub in_wave : (w : Wave) (l : Layer) → (l.epoch == suc w.line) ≡ true → rank_kept w l → w.under_way ≡ true
 in_wave w l e h = bit_true w.under_way (omega (arith, h.most, eqb-true l.epoch (suc w.line) e))
 
 once : (w : Wave) (l k : ℕ) (noted due : Bool) → 1 + k + bit noted ≡ bit due → (due ≡ true → w.under_way ≡ true) → l ≡ suc w.line → notes w l noted ≡ true

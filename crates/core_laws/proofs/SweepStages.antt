@@ -158,11 +158,11 @@ delivers-times : (k a b : ℕ) → k ≤ delivers_in (times k (Deliver a b)) a b
 delivers-times zero a b = omega arith
 delivers-times (suc k) a b = subst (λ t. suc k ≤ t) (sym (set_pair-here (delivers_in (times k (Deliver a b))) a b (suc (delivers_in (times k (Deliver a b)) a b)))) (omega (arith, delivers-times k a b))
 
-row-append : (e : ℕ → Event) (count : ℕ → ℕ) (xs ys : List ℕ) → row_events e count (xs ++ ys) ≡ row_events e count xs ++ row_events e count ys
+pub row-append : (e : ℕ → Event) (count : ℕ → ℕ) (xs ys : List ℕ) → row_events e count (xs ++ ys) ≡ row_events e count xs ++ row_events e count ys
 row-append e count [] ys = refl
 row-append e count (x ∷ xs) ys = ap (λ l. times (count x) (e x) ++ l) (row-append e count xs ys) ∙ sym (append_assoc (times (count x) (e x)) (row_events e count xs) (row_events e count ys))
 
-pair-append : (n : ℕ) (e : ℕ → ℕ → Event) (count : ℕ → ℕ → ℕ) (xs ys : List ℕ) → pair_events n e count (xs ++ ys) ≡ pair_events n e count xs ++ pair_events n e count ys
+pub pair-append : (n : ℕ) (e : ℕ → ℕ → Event) (count : ℕ → ℕ → ℕ) (xs ys : List ℕ) → pair_events n e count (xs ++ ys) ≡ pair_events n e count xs ++ pair_events n e count ys
 pair-append n e count [] ys = refl
 pair-append n e count (x ∷ xs) ys = ap (λ l. row_events (e x) (count x) (below n) ++ l) (pair-append n e count xs ys) ∙ sym (append_assoc (row_events (e x) (count x) (below n)) (pair_events n e count xs) (pair_events n e count ys))
 

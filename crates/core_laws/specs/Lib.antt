@@ -13,6 +13,7 @@ pub mod Plan
 pub mod Core
 pub mod CoreEvents
 pub mod Effects
+pub mod CoreTies
 pub mod Files
 pub mod DiskSessions
 pub mod Kept

@@ -8,6 +8,7 @@
 //! - `Effects`, `Files`, `DiskSessions`: what each event writes, the files that keep it, and sessions over files.
 //! - `Pausing`: ranks whose turns may pause.
 //! - `Ties`: when lists of values stand for data per rank.
+//! - `CoreTies`: when what code holds stands for a core, and what an event comes to there.
 //!
 //! and what the laws say of it:
 //!
@@ -22,6 +23,7 @@
 //! | `prompt`, `prompt_with_pauses` | after each event no Ready and no Stop is due, and an event commits at most one line | `Prompt` |
 //! | `four_sweeps`, `four_sweeps_with_pauses` | once every rank has saved and none is killed, events with four sweeps among them commit the line | `Sweeps` |
 //! | `written_commit` | an event that commits a line has that Commit among its effects | `Effects` |
+//! | `regular` | who logs has saved in the wave under way; who is asked has not, and has an empty log | `CoreTies` |
 //! | `says` | each Ready and Stopped on the way says the line of the wave | `Says` |
 #![tactic(auto)]
 
@@ -42,6 +44,7 @@ ghost use Rattle.core_laws.specs.Prompt.{Prompt};
 ghost use Rattle.core_laws.specs.PausingKept.{CommittedPausing, IsKeptPausing, IsKeptWithin, IsLagPausing, IsLivePausing, MovesOnPausing};
 ghost use Rattle.core_laws.specs.Pausing.{Stepping, stepping, without_pauses};
 ghost use Rattle.core_laws.specs.Says.{Says};
+ghost use Rattle.core_laws.specs.CoreTies.{Regular};
 
 /// Whatever the ranks are and whatever happens, all is kept: each event keeps it, and so does a restart from a line that stands.
 pub fn kept<State>()
@@ -156,4 +159,11 @@ pub fn says<State>()
     ensures begins { (process : Process State) (n : ℕ) → Says n (start_of (ranks process)).protocol }
     ensures next { (process : Process State) (n : ℕ) (core : Core State) (event : Core_event) → IsKept process n core → Says n core.protocol → Says n (next_of (ranks process) n core event).protocol }
     ensures restart { (n line : ℕ) (saved : ℕ → Written State) → Says n (restart_from line saved).protocol }
+{}
+
+/// What code rests on, of a core that is kept.
+pub fn regular<State>()
+    ensures kept { (process : Process State) (n : ℕ) (core : Core State) → IsKept process n core → Regular n core }
+    ensures within { (process : Stepping State) (n bound most : ℕ) (core : Core State) → IsKeptWithin process n bound most core → Regular n core }
+    ensures paused { (process : Stepping State) (n : ℕ) (core : Core State) → IsKeptPausing process n core → Regular n core }
 {}
