@@ -1,0 +1,9 @@
+mod Removals
+mod Insertions
+mod Apart
+mod Sizes
+mod Ties
+mod Memories
+mod Frames
+mod Nothing
+mod Turns

@@ -1,0 +1,5 @@
+pub mod Blocks
+pub mod Tied
+pub mod State
+pub mod Placing
+pub mod Running
