@@ -5,8 +5,8 @@ use Rattle.std.proofs.lemmas.List.{length-replicate, map-append, length-set}
 use Rattle.std.proofs.lemmas.Bool.Decides.{nat_tests}
 use Rattle.c3_base.specs.declared.cell.Cell.{Cell}
 use Rattle.c_memory.specs.declared.spot.Spot.{Spot}
-use Rattle.c_memory.specs.Memory.{Object, Memory, empty, find_object, with_cell, put_cell, put_by, put, put_all, null, fresh, add_variable, add_variables, used, total, enter, leave, map_ok, zeroed, asked_with, may_refuse, grant, refuse, is_full, cells_in, pointer, allocated, without, is_start, frees, free}
-use Rattle.flat_code.specs.Placed.{Block, first_fit, insert_block, without_block, none_fits}
+use Rattle.c_memory.specs.Memory.{Object, Memory, find_object, with_cell, put_cell, put_by, put, put_all, null, fresh, add_variable, add_variables, used, total, enter, map_ok, asked_with, may_refuse, grant, refuse, is_full, cells_in, pointer, allocated, without, is_start, frees, free}
+use Rattle.flat_code.specs.Placed.{Block, first_fit, insert_block, without_block}
 use Rattle.rank_machine.specs.Tied.{Size, size_of, sizes_of, without_size, AreApart, AreTied, AreBelow, IsTied}
 use Rattle.rank_machine.proofs.Apart.{apart_total, apart_higher, apart_without, apart_with, block_at, cells_with, fits, fits_few, full}
 use Rattle.rank_machine.proofs.Sizes as sizes

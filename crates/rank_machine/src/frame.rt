@@ -14,7 +14,7 @@ pub struct Frame {
     ghost reach: { variables.first + variables.count < 2 ^ 64 },
 }
 
-/// The place after another.
+/// The place after another. There is none after the last of `usize`, which no code is long enough for.
 pub fn after(place: usize) -> Result<usize, NoMemory>
     ensures { IfOk result (λ next. next ≡ place + 1) }
 {

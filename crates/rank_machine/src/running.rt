@@ -73,6 +73,7 @@ impl Running {
         let Some(mut frame) = self.frames.pop() else {
             return Ok(Step::Ended(End::Fault(108)));
         };
+        // so many objects no run makes
         if self.parts.world.memory.next() >= 1 << 62 {
             return Err(NoMemory);
         }

@@ -37,6 +37,7 @@ impl Running {
                 return Ok(want);
             }
         }
+        // so many steps no turn makes
         Err(NoMemory)
     }
 
