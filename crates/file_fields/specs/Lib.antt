@@ -1,0 +1,4 @@
+pub mod Cells
+pub mod Forms
+pub mod Messages
+pub mod Reads
