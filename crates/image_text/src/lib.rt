@@ -1,0 +1,13 @@
+//! Images of ranks, and their files.
+#![tactic(auto)]
+
+mod fields;
+mod image;
+mod object;
+mod state;
+mod whole;
+
+pub use image::Image;
+pub use object::SavedObject;
+pub use state::RankState;
+pub use whole::{NotImage, read_image, write_image};
