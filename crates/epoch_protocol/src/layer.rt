@@ -1,12 +1,12 @@
 //! A rank's layer.
 
 ghost use Rattle.std.specs.Prelude.{◌≡◌, ◌+◌, ◌<◌, ◌^◌, ℕ, Option, suc, [], length, map, IfOk, OnErr, OnOk, slice_index};
-ghost use Rattle.std.specs.Prelude as entries;
+ghost use Rattle.std.specs.Prelude as lists;
 ghost use Rattle.mpi_words.specs.declared.control.Control.TheVariants.{Count};
 ghost use Rattle.late_logs.specs.declared.entry.Entry.{Entry as Logged};
 ghost use Rattle.core_laws.specs.Protocol as protocol;
 ghost use Rattle.core_laws.specs.Handling.{all_below, ready_due};
-ghost use Rattle.core_laws.specs.Handling as told_words;
+ghost use Rattle.core_laws.specs.Handling as handling;
 ghost use Rattle.core_laws.specs.Ties.{Are};
 ghost use Rattle.epoch_protocol.specs.Layers.{IsLayer, HasRoom, send_as, after_send, met_as, counted_as, log_after, after_ready, told_by, after_control, log_of};
 
@@ -115,7 +115,7 @@ impl Layer {
     pub fn send(&mut self, to: u16) -> SendAs
         requires inside { to < self.old.ranks }
         requires room { slice_index self.old.sent to + 1 < 2 ^ 32 }
-        ensures { (n rank : ℕ) (l : protocol.Layer) (log : entries.List Logged) → IsLayer n rank self.old l log → (result ≡ send_as l to) × IsLayer n rank self.new (after_send l to) log }
+        ensures { (n rank : ℕ) (l : protocol.Layer) (log : lists.List Logged) → IsLayer n rank self.old l log → (result ≡ send_as l to) × IsLayer n rank self.new (after_send l to) log }
     {
         self.sent[usize::from(to)] += 1;
         if self.skips.take(to) {
@@ -129,7 +129,7 @@ impl Layer {
 
     /// How an arrival with this label is met.
     pub fn classify(&self, label: Label) -> Class
-        ensures { (n rank : ℕ) (l : protocol.Layer) (log : entries.List Logged) → IsLayer n rank self.now l log → result ≡ met_as l label }
+        ensures { (n rank : ℕ) (l : protocol.Layer) (log : lists.List Logged) → IsLayer n rank self.now l log → result ≡ met_as l label }
     {
         if label.epoch < self.epoch {
             return Class::Late;
@@ -152,7 +152,7 @@ impl Layer {
     ) -> Result<Class, NoMemory>
         requires inside { source < self.old.ranks }
         requires room { HasRoom self.old source }
-        ensures ok { (n rank : ℕ) (l : protocol.Layer) (log : entries.List Logged) → IsLayer n rank self.old l log → IfOk result (λ class. (class ≡ met_as l label) × IsLayer n rank self.new (protocol.layer_arrive l source (protocol.class_of l.epoch label.epoch)) (log_after l.logging (met_as l label) log source message.now)) }
+        ensures ok { (n rank : ℕ) (l : protocol.Layer) (log : lists.List Logged) → IsLayer n rank self.old l log → IfOk result (λ class. (class ≡ met_as l label) × IsLayer n rank self.new (protocol.layer_arrive l source (protocol.class_of l.epoch label.epoch)) (log_after l.logging (met_as l label) log source message.now)) }
         ensures err { OnErr result (self.new ≡ self.old) }
     {
         let class = self.classify(label);
@@ -165,7 +165,7 @@ impl Layer {
     fn count(&mut self, class: Class, source: u16)
         requires inside { source < self.old.ranks }
         requires room { HasRoom self.old source }
-        ensures { (n rank : ℕ) (l : protocol.Layer) (log : entries.List Logged) → IsLayer n rank self.old l log → IsLayer n rank self.new (protocol.layer_arrive l source (counted_as class)) log }
+        ensures { (n rank : ℕ) (l : protocol.Layer) (log : lists.List Logged) → IsLayer n rank self.old l log → IsLayer n rank self.new (protocol.layer_arrive l source (counted_as class)) log }
     {
         let at = usize::from(source);
         match class {
@@ -178,7 +178,7 @@ impl Layer {
     /// Begins the next epoch, in which the rank logs, and gives what each rank is told, by ranks.
     pub fn checkpoint(&mut self) -> Result<Vec<Control>, NoMemory>
         requires { self.old.epoch + 1 < 2 ^ 16 }
-        ensures ok { (n rank : ℕ) (l : protocol.Layer) (log : entries.List Logged) → IsLayer n rank self.old l log → IfOk result (λ counts. Are n counts.items (λ x. Count (suc l.epoch) (l.sent x)) × IsLayer n rank self.new (protocol.layer_save l) []) }
+        ensures ok { (n rank : ℕ) (l : protocol.Layer) (log : lists.List Logged) → IsLayer n rank self.old l log → IfOk result (λ counts. Are n counts.items (λ x. Count (suc l.epoch) (l.sent x)) × IsLayer n rank self.new (protocol.layer_save l) []) }
         ensures err { OnErr result (self.new ≡ self.old) }
     {
         let line = self.epoch + 1;
@@ -198,7 +198,7 @@ impl Layer {
     /// Takes a control message.
     pub fn control(&mut self, source: u16, c: Control) -> Told
         requires { source < self.old.ranks }
-        ensures { (n rank : ℕ) (l : protocol.Layer) (log : entries.List Logged) → IsLayer n rank self.old l log → (result ≡ told_by n l source c) × IsLayer n rank self.new (after_control n l source c) log }
+        ensures { (n rank : ℕ) (l : protocol.Layer) (log : lists.List Logged) → IsLayer n rank self.old l log → (result ≡ told_by n l source c) × IsLayer n rank self.new (after_control n l source c) log }
     {
         match c {
             Control::Request(_) => {
@@ -216,7 +216,7 @@ impl Layer {
     // Takes how many messages a rank sent in the epoch before.
     fn take_count(&mut self, source: u16, sent: u32) -> Told
         requires { source < self.old.ranks }
-        ensures { (n rank line : ℕ) (l : protocol.Layer) (log : entries.List Logged) → IsLayer n rank self.old l log → (result ≡ told_by n l source (Count line sent)) × IsLayer n rank self.new (after_control n l source (Count line sent)) log }
+        ensures { (n rank line : ℕ) (l : protocol.Layer) (log : lists.List Logged) → IsLayer n rank self.old l log → (result ≡ told_by n l source (Count line sent)) × IsLayer n rank self.new (after_control n l source (Count line sent)) log }
     {
         self.told[usize::from(source)] = Some(sent);
         if self.ready_due() {
@@ -227,7 +227,7 @@ impl Layer {
 
     /// Whether rank 0 is to be told now that the rank is ready.
     pub fn ready_due(&mut self) -> bool
-        ensures { (n rank : ℕ) (l : protocol.Layer) (log : entries.List Logged) → IsLayer n rank self.old l log → (result ≡ ready_due n l) × IsLayer n rank self.new (after_ready n l) log }
+        ensures { (n rank : ℕ) (l : protocol.Layer) (log : lists.List Logged) → IsLayer n rank self.old l log → (result ≡ ready_due n l) × IsLayer n rank self.new (after_ready n l) log }
     {
         if !self.is_ready() {
             return false;
@@ -239,7 +239,7 @@ impl Layer {
 
     // Whether the rank logs, hasn't been ready, and has all messages of the epoch before.
     fn is_ready(&self) -> bool
-        ensures { (n rank : ℕ) (l : protocol.Layer) (log : entries.List Logged) → IsLayer n rank self.now l log → result ≡ ready_due n l }
+        ensures { (n rank : ℕ) (l : protocol.Layer) (log : lists.List Logged) → IsLayer n rank self.now l log → result ≡ ready_due n l }
     {
         if !self.logging || self.was_ready {
             return false;
@@ -249,7 +249,7 @@ impl Layer {
 
     /// Ends the log, after so many operations of the rank.
     pub fn stop(&mut self, ops: u64) -> Log
-        ensures { (n rank : ℕ) (l : protocol.Layer) (log : entries.List Logged) → IsLayer n rank self.old l log → (result ≡ log_of n rank l.epoch ops log) × IsLayer n rank self.new (protocol.layer_stop l) [] }
+        ensures { (n rank : ℕ) (l : protocol.Layer) (log : lists.List Logged) → IsLayer n rank self.old l log → (result ≡ log_of n rank l.epoch ops log) × IsLayer n rank self.new (protocol.layer_stop l) [] }
     {
         self.logging = false;
         let entries = mem::replace(&mut self.log, List::new(*self.sent.allocator()));
@@ -322,7 +322,7 @@ fn counts_for(line: u16, sent: &[u32], alloc: Global) -> Result<Vec<Control>, No
 fn all_told(ranks: u16, told: &[Option<u32>], old: &[u32]) -> bool
     requires told { length told.now ≡ ranks }
     requires old { length old.now ≡ ranks }
-    ensures { (n : ℕ) (its : ℕ → Option ℕ) (come : ℕ → ℕ) → Are n told.now its → Are n old.now come → result ≡ all_below n (λ x. told_words.is_told (its x) (come x)) }
+    ensures { (n : ℕ) (its : ℕ → Option ℕ) (come : ℕ → ℕ) → Are n told.now its → Are n old.now come → result ≡ all_below n (λ x. handling.is_told (its x) (come x)) }
 {
     for rank in 0..ranks {
         let at = usize::from(rank);
@@ -335,7 +335,7 @@ fn all_told(ranks: u16, told: &[Option<u32>], old: &[u32]) -> bool
 
 // Whether so many messages were told.
 fn is_told(told: Option<u32>, count: u32) -> bool
-    ensures { result ≡ told_words.is_told told count }
+    ensures { result ≡ handling.is_told told count }
 {
     match told {
         None => false,

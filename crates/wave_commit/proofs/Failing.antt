@@ -1,24 +1,10 @@
 -- The lowest rank that fails a test.
-use Rattle.std.proofs.Common.{◌≡◌, ℕ, zero, suc, ◌<◌, ◌≤◌, Bool, true, false, ◌&&◌, List, length, get_or, Some, None, sym, refl, ap, ◌∙◌, subst, ⊎_elim, arith}
+use Rattle.std.proofs.Common.{◌≡◌, ℕ, zero, suc, ◌<◌, ◌≤◌, Bool, true, false, List, length, get_or, Some, None, sym, refl, ap, ◌∙◌, subst, ⊎_elim, arith}
 use Rattle.std.proofs.lemmas.Bool.{cases_lt}
 use Rattle.core_laws.specs.Handling.{all_below}
 use Rattle.core_laws.specs.Ties.{Are}
+use Rattle.core_laws.proofs.Tied.{all_below-same, all_below-fails}
 use Rattle.wave_commit.specs.Waves.{first_failing, lowest_failing}
-
-pub all_below-same : (n : ℕ) (f g : ℕ → Bool) → ((k : ℕ) → k < n → f k ≡ g k) → all_below n f ≡ all_below n g
-all_below-same zero f g h = refl
-all_below-same (suc n) f g h = rw (h n (omega arith), all_below-same n f g (λ k b. h k (omega arith))) refl
-
-pub all_below-fails : (n : ℕ) (f : ℕ → Bool) (r : ℕ) → r < n → f r ≡ false → all_below n f ≡ false
-all_below-fails zero f r b h = absurd (omega arith)
-all_below-fails (suc n) f r b h = ⊎_elim
-    (λ d. rw (all_below-fails n f r d h) (both_false (f n)))
-    (λ d. let e : n ≡ r = omega arith in rw (e, h) refl)
-    (cases_lt r n)
-  where
-    both_false : (x : Bool) → (x && false) ≡ false
-    both_false true = refl
-    both_false false = refl
 
 pub lowest_failing-at : (n : ℕ) (f : ℕ → Bool) (r : ℕ) → r < n → all_below r f ≡ true → f r ≡ false → lowest_failing n f ≡ r
 lowest_failing-at zero f r b all h = absurd (omega arith)
