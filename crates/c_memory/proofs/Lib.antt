@@ -4,3 +4,4 @@ pub mod Enters
 pub mod Refusals
 pub mod Writes
 pub mod ObjectExamples
+pub mod Comebacks

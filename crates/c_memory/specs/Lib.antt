@@ -3,3 +3,4 @@ pub mod Written
 pub mod Order
 pub mod Seen
 pub mod Kept
+pub mod Resumed

@@ -1,5 +1,7 @@
 //! The memory of a program.
 
+mod resumed;
+
 ghost use Rattle.std.specs.Prelude.{◌≡◌, ◌+◌, ◌<◌, ◌≤◌, ◌^◌, length, IfOk, IfErr, Some, option_map, false, nat_eq, nat_lt, pos};
 ghost use Rattle.c_memory.specs.Memory as spec;
 ghost use Rattle.c_memory.specs.Memory.{empty, cells_of, load, put, load_all, pointing, zeroed, used, enter, leave, grant, free, is_full, map_ok, total, add_variable, allocated, malloc};

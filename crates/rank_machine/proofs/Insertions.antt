@@ -3,10 +3,10 @@ use Rattle.std.proofs.Common.{◌≡◌, ◌<◌, ◌≤◌, ℕ, zero, suc, tru
 use Rattle.std.specs.Prelude.{nat_lt}
 use Rattle.std.proofs.lemmas.Bool.Decides.{nat_tests}
 use Rattle.flat_code.specs.Placed.{insert_block}
-use Rattle.rank_machine.specs.declared.blocks.Block.{Block}
+use Rattle.variable_stack.specs.declared.Descriptor.{Descriptor}
 use Rattle.rank_machine.specs.Blocks.{block_of, blocks_of}
 
-pub inserted : (bs : List Block) (i : ℕ) (b d : Block) → ((k : ℕ) (e : Block) → k < i → (get_or bs k e).place ≤ b.place) → i < length bs → b.place < (get_or bs i d).place → blocks_of (take i bs ++ b ∷ drop i bs) ≡ insert_block (block_of b) (blocks_of bs)
+pub inserted : (bs : List Descriptor) (i : ℕ) (b d : Descriptor) → ((k : ℕ) (e : Descriptor) → k < i → (get_or bs k e).place ≤ b.place) → i < length bs → b.place < (get_or bs i d).place → blocks_of (take i bs ++ b ∷ drop i bs) ≡ insert_block (block_of b) (blocks_of bs)
 inserted [] i b d h l e = let no : ⊥ = omega (arith, l) in absurd no
 inserted (c ∷ cs) zero b d h l e =
     let t : nat_lt b.place c.place ≡ true = grind (arith, nat_tests, e) in
@@ -17,7 +17,7 @@ inserted (c ∷ cs) (suc i) b d h l e =
     let r : blocks_of (take i cs ++ b ∷ drop i cs) ≡ insert_block (block_of b) (blocks_of cs) = inserted cs i b d (λ k f m. h (suc k) f (omega (arith, m))) (omega (arith, l)) e in
     rw (t, r) refl
 
-pub added : (bs : List Block) (b d : Block) → ((k : ℕ) (e : Block) → k < length bs → (get_or bs k e).place ≤ b.place) → blocks_of (take (length bs) bs ++ b ∷ drop (length bs) bs) ≡ insert_block (block_of b) (blocks_of bs)
+pub added : (bs : List Descriptor) (b d : Descriptor) → ((k : ℕ) (e : Descriptor) → k < length bs → (get_or bs k e).place ≤ b.place) → blocks_of (take (length bs) bs ++ b ∷ drop (length bs) bs) ≡ insert_block (block_of b) (blocks_of bs)
 added [] b d h = refl
 added (c ∷ cs) b d h =
     let p : c.place ≤ b.place = h zero d (omega arith) in

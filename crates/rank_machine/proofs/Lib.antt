@@ -7,3 +7,10 @@ mod Memories
 mod Frames
 mod Nothing
 mod Turns
+mod Kept
+mod Readiness
+mod Descriptions
+mod Numbers
+mod Sites
+mod Renumbers
+mod Regained

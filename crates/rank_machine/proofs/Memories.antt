@@ -109,7 +109,7 @@ tied_free m n bs p h e = subst (λ (r : Result Memory ℕ). TiedOk (without_bloc
 
 -- ---- malloc
 
-cells_sizes : (os : List Object) → cells_in os ≡ sizes.total (sizes_of os)
+pub cells_sizes : (os : List Object) → cells_in os ≡ sizes.total (sizes_of os)
 cells_sizes [] = refl
 cells_sizes (o ∷ os) = let r = cells_sizes os in omega (arith, r)
 

@@ -2,10 +2,10 @@
 use Rattle.std.proofs.Common.{◌≡◌, ◌≢◌, ◌<◌, ℕ, zero, suc, nat_eq, true, false, List, [], ◌∷◌, ◌++◌, length, take, drop, get_or, refl, arith}
 use Rattle.std.proofs.lemmas.Bool.Decides.{nat_tests}
 use Rattle.flat_code.specs.Placed.{without_block}
-use Rattle.rank_machine.specs.declared.blocks.Block.{Block}
+use Rattle.variable_stack.specs.declared.Descriptor.{Descriptor}
 use Rattle.rank_machine.specs.Blocks.{blocks_of}
 
-pub removed : (bs : List Block) (i serial : ℕ) (d : Block) → ((k : ℕ) (e : Block) → k < i → (get_or bs k e).serial ≢ serial) → i < length bs → (get_or bs i d).serial ≡ serial → blocks_of (take i bs ++ drop (suc i) bs) ≡ without_block (blocks_of bs) serial
+pub removed : (bs : List Descriptor) (i serial : ℕ) (d : Descriptor) → ((k : ℕ) (e : Descriptor) → k < i → (get_or bs k e).serial ≢ serial) → i < length bs → (get_or bs i d).serial ≡ serial → blocks_of (take i bs ++ drop (suc i) bs) ≡ without_block (blocks_of bs) serial
 removed [] i serial d h l e = let no : ⊥ = omega (arith, l) in absurd no
 removed (b ∷ bs) zero serial d h l e =
     let t : nat_eq b.serial serial ≡ true = grind (arith, nat_tests, e) in
@@ -16,7 +16,7 @@ removed (b ∷ bs) (suc i) serial d h l e =
     let r : blocks_of (take i bs ++ drop (suc i) bs) ≡ without_block (blocks_of bs) serial = removed bs i serial d (λ k f m. h (suc k) f (omega (arith, m))) (omega (arith, l)) e in
     rw (t, r) refl
 
-pub missing : (bs : List Block) (serial : ℕ) (d : Block) → ((k : ℕ) (e : Block) → k < length bs → (get_or bs k e).serial ≢ serial) → blocks_of bs ≡ without_block (blocks_of bs) serial
+pub missing : (bs : List Descriptor) (serial : ℕ) (d : Descriptor) → ((k : ℕ) (e : Descriptor) → k < length bs → (get_or bs k e).serial ≢ serial) → blocks_of bs ≡ without_block (blocks_of bs) serial
 missing [] serial d h = refl
 missing (b ∷ bs) serial d h =
     let p : b.serial ≢ serial = h zero d (omega arith) in

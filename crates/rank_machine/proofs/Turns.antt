@@ -13,72 +13,73 @@ use Rattle.flat_code.specs.declared.code.Instr.{Instr}
 use Rattle.flat_code.specs.declared.code.Instr.TheVariants as instr
 use Rattle.flat_code.specs.Machine.{Frame, Machine, acts, instr_at, step, step_in}
 use Rattle.flat_code.specs.Machine as outcome
-use Rattle.flat_code.specs.Placed.{Block, none_fits}
+use Rattle.flat_code.specs.Placed.{none_fits}
+use Rattle.rank_machine.specs.Layout.{Layout}
 use Rattle.rank_machine.specs.declared.running.Step.{Step}
 use Rattle.rank_machine.specs.declared.running.Step.TheVariants.{Local, Wants, Ended}
-use Rattle.rank_machine.specs.Placing.{Placing, heap_after, placed, stepped, is_step, begins_in, begins, Turns, IsTurn}
+use Rattle.rank_machine.specs.Placing.{Placing, laid, laid_after, placed, stepped, is_step, begins_in, begins, Turns, IsTurn}
 use Rattle.rank_machine.specs.Running.{outcome_of, goes_on, act_by, came_to, IsWanted}
 
 -- ---- a step that begins a statement isn't the last
 
-act_goes : (functions : List FlatFunction) (refuses : Memory → ℕ → Bool) (m : Machine) (heap : List Block) (top : Frame) (below : List Frame) (x : Option Instr) → is_step x ≡ true → is_last (placed heap (acts functions refuses m top below x)) ≡ false
-act_goes functions refuses m heap top below None h = absurd cc
-act_goes functions refuses m heap top below (Some instr.Step) h = refl
-act_goes functions refuses m heap top below (Some (instr.Zero k)) h = absurd cc
-act_goes functions refuses m heap top below (Some (instr.Set place value)) h = absurd cc
-act_goes functions refuses m heap top below (Some (instr.Call into f arguments)) h = absurd cc
-act_goes functions refuses m heap top below (Some (instr.Malloc place bytes each)) h = absurd cc
-act_goes functions refuses m heap top below (Some (instr.Free e)) h = absurd cc
-act_goes functions refuses m heap top below (Some (instr.Goto to)) h = absurd cc
-act_goes functions refuses m heap top below (Some (instr.Unless e to)) h = absurd cc
-act_goes functions refuses m heap top below (Some (instr.Return e)) h = absurd cc
-act_goes functions refuses m heap top below (Some (instr.Mark site)) h = absurd cc
-act_goes functions refuses m heap top below (Some (instr.Push site)) h = absurd cc
-act_goes functions refuses m heap top below (Some instr.Pop) h = absurd cc
-act_goes functions refuses m heap top below (Some instr.Leave) h = absurd cc
-act_goes functions refuses m heap top below (Some (instr.Enter variables sites)) h = absurd cc
-act_goes functions refuses m heap top below (Some (instr.Print format arguments)) h = absurd cc
-act_goes functions refuses m heap top below (Some (instr.Mpi call)) h = absurd cc
+act_goes : (functions : List FlatFunction) (refuses : Memory → ℕ → Bool) (m : Machine) (l : Layout) (top : Frame) (below : List Frame) (x : Option Instr) → is_step x ≡ true → is_last (placed l (acts functions refuses m top below x)) ≡ false
+act_goes functions refuses m l top below None h = absurd cc
+act_goes functions refuses m l top below (Some instr.Step) h = refl
+act_goes functions refuses m l top below (Some (instr.Zero k)) h = absurd cc
+act_goes functions refuses m l top below (Some (instr.Set place value)) h = absurd cc
+act_goes functions refuses m l top below (Some (instr.Call into f arguments)) h = absurd cc
+act_goes functions refuses m l top below (Some (instr.Malloc place bytes each)) h = absurd cc
+act_goes functions refuses m l top below (Some (instr.Free e)) h = absurd cc
+act_goes functions refuses m l top below (Some (instr.Goto to)) h = absurd cc
+act_goes functions refuses m l top below (Some (instr.Unless e to)) h = absurd cc
+act_goes functions refuses m l top below (Some (instr.Return e)) h = absurd cc
+act_goes functions refuses m l top below (Some (instr.Mark site)) h = absurd cc
+act_goes functions refuses m l top below (Some (instr.Push site)) h = absurd cc
+act_goes functions refuses m l top below (Some instr.Pop) h = absurd cc
+act_goes functions refuses m l top below (Some instr.Leave) h = absurd cc
+act_goes functions refuses m l top below (Some (instr.Enter variables sites)) h = absurd cc
+act_goes functions refuses m l top below (Some (instr.Print format arguments)) h = absurd cc
+act_goes functions refuses m l top below (Some (instr.Mpi call)) h = absurd cc
 
-newest_goes : (functions : List FlatFunction) (refuses : Memory → ℕ → Bool) (m : Machine) (heap : List Block) (frames : List Frame) → begins_in functions frames ≡ true → is_last (placed heap (step_in functions refuses m frames)) ≡ false
-newest_goes functions refuses m heap [] h = absurd cc
-newest_goes functions refuses m heap (top ∷ below) h = act_goes functions refuses m heap top below (instr_at functions top) h
+newest_goes : (functions : List FlatFunction) (refuses : Memory → ℕ → Bool) (m : Machine) (l : Layout) (frames : List Frame) → begins_in functions frames ≡ true → is_last (placed l (step_in functions refuses m frames)) ≡ false
+newest_goes functions refuses m l [] h = absurd cc
+newest_goes functions refuses m l (top ∷ below) h = act_goes functions refuses m l top below (instr_at functions top) h
 
-asked_goes : (functions : List FlatFunction) (refuses : Memory → ℕ → Bool) (m : Machine) (heap : List Block) (asked : Option Request) → elim asked [ None ↦ begins_in functions m.frames | Some q ↦ false ] ≡ true → is_last (placed heap (elim asked [ None ↦ step_in functions refuses m m.frames | Some q ↦ outcome.Asks q.operation m ])) ≡ false
-asked_goes functions refuses m heap None h = newest_goes functions refuses m heap m.frames h
-asked_goes functions refuses m heap (Some q) h = absurd cc
+asked_goes : (functions : List FlatFunction) (refuses : Memory → ℕ → Bool) (m : Machine) (l : Layout) (asked : Option Request) → elim asked [ None ↦ begins_in functions m.frames | Some q ↦ false ] ≡ true → is_last (placed l (elim asked [ None ↦ step_in functions refuses m m.frames | Some q ↦ outcome.Asks q.operation m ])) ≡ false
+asked_goes functions refuses m l None h = newest_goes functions refuses m l m.frames h
+asked_goes functions refuses m l (Some q) h = absurd cc
 
 begun_goes : (functions : List FlatFunction) (p : Placing) → begins functions p ≡ true → is_last (stepped functions p) ≡ false
-begun_goes functions p h = asked_goes functions (none_fits p.heap) p.machine (heap_after functions p) p.machine.asked h
+begun_goes functions p h = asked_goes functions (none_fits p.heap) p.machine (laid_after functions p) p.machine.asked h
 
--- ---- a step with the heap after it
+-- ---- a step with what it leaves where
 
-waited : (p : Placing) (asked : Option Request) → elim asked [ None ↦ Goes p | Some q ↦ Asks q.operation p ] ≡ placed p.heap (elim asked [ None ↦ outcome.Goes false p.machine | Some q ↦ outcome.Asks q.operation p.machine ])
+waited : (p : Placing) (asked : Option Request) → elim asked [ None ↦ Goes p | Some q ↦ Asks q.operation p ] ≡ placed (laid p) (elim asked [ None ↦ outcome.Goes false p.machine | Some q ↦ outcome.Asks q.operation p.machine ])
 waited p None = refl
 waited p (Some q) = refl
 
-by_outcome : (did : Step) (q : Placing) → act_by did q ≡ placed q.heap (outcome_of did q.machine)
+by_outcome : (did : Step) (q : Placing) → act_by did q ≡ placed (laid q) (outcome_of did q.machine)
 by_outcome (Local began) q = refl
 by_outcome Wants q = waited q q.machine.asked
 by_outcome (Ended end) q = refl
 
-ended_anyhow : (heap other : List Block) (did : Step) (q : Placing) → goes_on did ≡ false → placed heap (outcome_of did q.machine) ≡ placed other (outcome_of did q.machine)
-ended_anyhow heap other (Local began) q h = absurd cc
-ended_anyhow heap other Wants q h = absurd cc
-ended_anyhow heap other (Ended end) q h = refl
+ended_anyhow : (l other : Layout) (did : Step) (q : Placing) → goes_on did ≡ false → placed l (outcome_of did q.machine) ≡ placed other (outcome_of did q.machine)
+ended_anyhow l other (Local began) q h = absurd cc
+ended_anyhow l other Wants q h = absurd cc
+ended_anyhow l other (Ended end) q h = refl
 
-heap_if : (heap other : List Block) (did : Step) (q : Placing) (on : Bool) → goes_on did ≡ on → (on ≡ true → heap ≡ other) → placed heap (outcome_of did q.machine) ≡ placed other (outcome_of did q.machine)
-heap_if heap other did q true e h = ap (λ (x : List Block). placed x (outcome_of did q.machine)) (h refl)
-heap_if heap other did q false e h = ended_anyhow heap other did q e
+laid_if : (l other : Layout) (did : Step) (q : Placing) (on : Bool) → goes_on did ≡ on → (on ≡ true → l ≡ other) → placed l (outcome_of did q.machine) ≡ placed other (outcome_of did q.machine)
+laid_if l other did q true e h = ap (λ (x : Layout). placed x (outcome_of did q.machine)) (h refl)
+laid_if l other did q false e h = ended_anyhow l other did q e
 
 -- what a step did, and what a turn makes of it
 pub record Stepped (functions : List FlatFunction) (p q : Placing) (did : Step) (want : Option Want) : Type 0 where
   pub outcome : outcome_of did q.machine ≡ step functions (none_fits p.heap) p.machine
-  pub heap : goes_on did ≡ true → q.heap ≡ heap_after functions p
+  pub laid : goes_on did ≡ true → laid q ≡ laid_after functions p
   pub wanted : IsWanted want did q
 
 one_step : (functions : List FlatFunction) (p q : Placing) (did : Step) (want : Option Want) → Stepped functions p q did want → act_by did q ≡ stepped functions p
-one_step functions p q did want s = by_outcome did q ∙ heap_if q.heap (heap_after functions p) did q (goes_on did) refl s.heap ∙ ap (placed (heap_after functions p)) s.outcome
+one_step functions p q did want s = by_outcome did q ∙ laid_if (laid q) (laid_after functions p) did q (goes_on did) refl s.laid ∙ ap (placed (laid_after functions p)) s.outcome
 
 -- a turn that goes on, or has come to an end
 abbrev pub GoesOn : List FlatFunction → ℕ → ℕ → Placing → Placing → Option Want → Type 0

@@ -1,5 +1,10 @@
 pub mod Blocks
+pub mod Layout
 pub mod Tied
 pub mod State
 pub mod Placing
 pub mod Running
+pub mod Saving
+pub mod Resumed
+pub mod WellFormed
+pub mod Returning

@@ -1,4 +1,4 @@
--- A machine with the places of the objects of malloc, which gives NULL exactly where no place fits.
+-- A machine with the places of its variables and of the objects of malloc, which gives NULL exactly where no place fits.
 use Rattle.std.specs.Prelude.{ℕ, Bool, true, false, List, [], ◌∷◌, Option, Some, None}
 use Rattle.mpi_words.specs.declared.operation.Op.{Op}
 use Rattle.mpi_words.specs.declared.operation.End.{End}
@@ -10,36 +10,43 @@ use Rattle.flat_code.specs.declared.code.Instr.{Instr}
 use Rattle.flat_code.specs.declared.code.Instr.TheVariants.{Step}
 use Rattle.flat_code.specs.Machine.{Frame, Machine, Outcome, instr_at, step}
 use Rattle.flat_code.specs.Machine as outcome
-use Rattle.flat_code.specs.Placed.{Block, none_fits, heap_by}
+use Rattle.flat_code.specs.Placed.{Block, none_fits}
+use Rattle.rank_machine.specs.Layout.{Layout, laid_by}
 
--- the blocks of the heap by ascending places
+-- the blocks of the variables that have descriptors, from the bottom, and those of the heap by ascending places
 pub record Placing : Type 0 where
   pub machine : Machine
+  pub stack : List Block
   pub heap : List Block
 
--- a machine in its code, and how it ended where it has
+abbrev pub laid : Placing → Layout
+laid p = record { stack = p.stack; heap = p.heap }
+
+-- a machine in its code: how it ended where it has, in restart mode the sites that its position stack has yet to name, and how many collective calls it began
 pub record Standing : Type 0 where
   pub functions : List FlatFunction
   pub placing : Placing
   pub end : Option End
+  pub left : Option (List ℕ)
+  pub begun : ℕ
 
--- the heap after the next instruction
-abbrev pub heap_in : List FlatFunction → Machine → List Block → List Frame → List Block
-heap_in functions m heap [] = heap
-heap_in functions m heap (top ∷ below) = heap_by m.memory top heap (instr_at functions top)
+-- where they stand after the next instruction
+abbrev pub laid_in : List FlatFunction → Machine → Layout → List Frame → Layout
+laid_in functions m l [] = l
+laid_in functions m l (top ∷ below) = laid_by m.memory top l (instr_at functions top)
 
 -- and after a step: an operation that waits changes nothing
-abbrev pub heap_after : List FlatFunction → Placing → List Block
-heap_after functions p = elim p.machine.asked [ None ↦ heap_in functions p.machine p.heap p.machine.frames | Some q ↦ p.heap ]
+abbrev pub laid_after : List FlatFunction → Placing → Layout
+laid_after functions p = elim p.machine.asked [ None ↦ laid_in functions p.machine (laid p) p.machine.frames | Some q ↦ laid p ]
 
-abbrev pub placed : List Block → Outcome → Act Placing Op End
-placed heap (outcome.Goes began m) = Goes (record { machine = m; heap = heap })
-placed heap (outcome.Asks o m) = Asks o (record { machine = m; heap = heap })
-placed heap (outcome.Ends e) = Ends e
+abbrev pub placed : Layout → Outcome → Act Placing Op End
+placed l (outcome.Goes began m) = Goes (record { machine = m; stack = l.stack; heap = l.heap })
+placed l (outcome.Asks o m) = Asks o (record { machine = m; stack = l.stack; heap = l.heap })
+placed l (outcome.Ends e) = Ends e
 
 -- one step
 abbrev pub stepped : List FlatFunction → Placing → Act Placing Op End
-stepped functions p = placed (heap_after functions p) (step functions (none_fits p.heap) p.machine)
+stepped functions p = placed (laid_after functions p) (step functions (none_fits p.heap) p.machine)
 
 -- whether it begins a statement
 abbrev pub is_step : Option Instr → Bool

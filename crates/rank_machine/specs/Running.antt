@@ -6,17 +6,23 @@ use Rattle.mpi_words.specs.declared.operation.Want.{Want}
 use Rattle.runs.specs.Turn.{Act}
 use Rattle.runs.specs.Turn as turn
 use Rattle.flat_code.specs.Machine.{Machine, Outcome, Goes, Ends}
+use Rattle.flat_code.specs.Restart.{Restarting}
 use Rattle.rank_machine.specs.declared.running.Running.{Running}
 use Rattle.rank_machine.specs.declared.running.Step.{Step}
 use Rattle.rank_machine.specs.declared.running.Step.TheVariants.{Local, Wants, Ended}
 use Rattle.rank_machine.specs.Placing.{Placing, act_of}
-use Rattle.rank_machine.specs.State.{frames_of, heap_of, machine_of, waiting}
+use Rattle.rank_machine.specs.Blocks.{blocks_of}
+use Rattle.rank_machine.specs.State.{frames_of, heap_of, left_of, machine_of, waiting}
 
 abbrev pub state_of : Running → Machine
 state_of run = machine_of run.parts (frames_of run.frames.items)
 
 abbrev pub placing_of : Running → Placing
-placing_of run = record { machine = state_of run; heap = heap_of run.parts }
+placing_of run = record { machine = state_of run; stack = blocks_of run.parts.described; heap = heap_of run.parts }
+
+-- in restart mode
+abbrev pub again_of : Running → Restarting
+again_of run = record { machine = state_of run; left = left_of run.parts }
 
 -- what the answer of a step says, with the machine after it
 abbrev pub outcome_of : Step → Machine → Outcome

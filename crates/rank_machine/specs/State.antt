@@ -1,5 +1,5 @@
 -- What a machine that runs stands for.
-use Rattle.std.specs.Prelude.{ℕ, Bool, true, false, List, ◌∷◌, map, reverse, Option, Some, None, Result}
+use Rattle.std.specs.Prelude.{ℕ, Bool, true, false, List, ◌∷◌, drop, map, reverse, Option, Some, None, Result}
 use Rattle.mpi_words.specs.declared.operation.End.{End}
 use Rattle.flat_code.specs.declared.code.FlatFunction.{FlatFunction}
 use Rattle.flat_code.specs.declared.code.Instr.{Instr}
@@ -7,11 +7,16 @@ use Rattle.flat_code.specs.declared.code.Instr.TheVariants.{Zero, Set, Malloc, F
 use Rattle.flat_code.specs.Machine.{Machine, Outcome, Goes, Asks, Ends, acts, returned, with_ok}
 use Rattle.flat_code.specs.Machine as machine
 use Rattle.flat_code.specs.Placed as placed
-use Rattle.flat_code.specs.Placed.{heap_by, none_fits}
+use Rattle.flat_code.specs.Restart.{Restarting}
+use Rattle.flat_code.specs.Placed.{none_fits}
+use Rattle.rank_machine.specs.Blocks.{blocks_of}
+use Rattle.rank_machine.specs.Layout.{Layout, laid_by}
 use Rattle.rank_machine.specs.declared.frame.Frame.{Frame}
 use Rattle.rank_machine.specs.declared.parts.Parts.{Parts}
 use Rattle.rank_machine.specs.declared.parts.Change.{Change}
 use Rattle.rank_machine.specs.declared.parts.Change.TheVariants as change
+use Rattle.rank_machine.specs.declared.reenter.Reentry.{Reentry}
+use Rattle.rank_machine.specs.declared.reenter.Reentry.TheVariants as reentry
 
 abbrev pub frame_of : Frame → machine.Frame
 frame_of f = record { function = f.function; place = f.place; variables = f.variables }
@@ -23,11 +28,14 @@ frames_of frames = map frame_of (reverse frames)
 abbrev pub heap_of : Parts → List placed.Block
 heap_of parts = parts.world.memory.blocks
 
+abbrev pub laid_of : Parts → Layout
+laid_of parts = record { stack = blocks_of parts.described; heap = heap_of parts }
+
 abbrev pub machine_of : Parts → List machine.Frame → Machine
 machine_of parts frames = record {
   frames = frames;
-  sites = reverse parts.sites.items;
-  described = reverse parts.described.items;
+  sites = reverse parts.sites.sites;
+  described = reverse (map (λ d. d.serial) parts.described);
   memory = parts.world.memory.memory;
   seat = parts.world.requests.seat;
   phase = parts.world.requests.phase;
@@ -55,12 +63,12 @@ outcome_by functions (change.Returns v) parts frame below = returned functions (
 abbrev pub in_call : {A : Type 0} → (Machine → machine.Frame → List machine.Frame → A) → Parts → Frame → List machine.Frame → A
 in_call go parts frame below = go (machine_with parts frame below) (frame_of frame) below
 
--- what an instruction does in the newest call, and to the heap
+-- what an instruction does in the newest call, and to the stack and the heap
 abbrev pub does : List FlatFunction → Parts → Frame → List machine.Frame → Option Instr → Outcome
 does functions parts frame below x = acts functions (none_fits (heap_of parts)) (machine_with parts frame below) (frame_of frame) below x
 
-abbrev pub heap_by_next : Parts → Frame → Option Instr → List placed.Block
-heap_by_next parts frame x = heap_by parts.world.memory.memory (frame_of frame) (heap_of parts) x
+abbrev pub laid_by_next : Parts → Frame → Option Instr → Layout
+laid_by_next parts frame x = laid_by parts.world.memory.memory (frame_of frame) (laid_of parts) x
 
 -- whether an instruction changes memory or asks for an operation, without a call
 abbrev pub works : Instr → Bool
@@ -86,3 +94,18 @@ answer_of (Some end) m = Ends end
 abbrev pub is_on : Change → Bool
 is_on (change.Ends end) = false
 is_on _ = true
+
+-- the sites that the position stack has yet to name
+abbrev pub left_of : Parts → List ℕ
+left_of parts = drop parts.sites.replayed parts.sites.sites
+
+-- what an instruction of restart mode says, with the machine after it
+abbrev pub again_by : Reentry → Parts → Frame → List machine.Frame → Option Restarting
+again_by reentry.Nothing parts frame below = None
+again_by reentry.Jumps parts frame below = Some (record { machine = machine_with parts frame below; left = left_of parts })
+again_by (reentry.Enters e) parts frame below = Some (record { machine = machine_of parts (frame_of e ∷ frame_of frame ∷ below); left = left_of parts })
+
+-- whether there was one
+abbrev pub is_again : Reentry → Bool
+is_again reentry.Nothing = false
+is_again _ = true

@@ -7,7 +7,8 @@ ghost use Rattle.flat_code.specs.declared.code.Instr.TheVariants.{Step, Return};
 ghost use Rattle.flat_code.specs.Machine.{awaited, instr_at, target_in};
 ghost use Rattle.flat_code.specs.Machine as machine;
 ghost use Rattle.rank_machine.specs.Placing.{is_step};
-ghost use Rattle.rank_machine.specs.State.{does, frame_of, goes_back, heap_by_next, heap_of, in_call, is_on, outcome_by, works};
+ghost use Rattle.rank_machine.specs.Returning.{is_mark};
+ghost use Rattle.rank_machine.specs.State.{does, frame_of, goes_back, in_call, laid_by_next, laid_of, is_on, outcome_by, works};
 
 use crate::frame::{Frame, after};
 use crate::parts::{Change, Parts};
@@ -34,6 +35,23 @@ fn is_step(next: Option<&Instr>) -> bool
     ensures { result ≡ is_step (option_copied next.entry) }
 {
     matches!(next, Some(Instr::Step))
+}
+
+/// Whether a call stands at a mark.
+#[tactic(auto, using(crate::proofs::Nothing::marks_nothing))]
+pub fn marks(functions: &[FlatFunction], frame: &Frame) -> bool
+    ensures { result ≡ is_mark (instr_at functions.now (frame_of frame.now)) }
+{
+    match functions.get(frame.function) {
+        None => false,
+        Some(f) => is_mark(f.code.get(frame.place)),
+    }
+}
+
+fn is_mark(next: Option<&Instr>) -> bool
+    ensures { result ≡ is_mark (option_copied next.entry) }
+{
+    matches!(next, Some(Instr::Mark(_)))
 }
 
 // Where the result goes that comes back to a call.
@@ -65,7 +83,7 @@ impl Parts {
     ) -> Result<Change, NoMemory>
         requires { self.old.world.memory.memory.next < 2 ^ 62 }
         ensures outcome { IfOk result (λ did. (below : List machine.Frame) → outcome_by functions.now did self.new frame.new below ≡ does functions.now self.old frame.old below (instr_at functions.now (frame_of frame.old))) }
-        ensures heap { IfOk result (λ did. is_on did ≡ true → heap_of self.new ≡ heap_by_next self.old frame.old (instr_at functions.now (frame_of frame.old))) }
+        ensures laid { IfOk result (λ did. is_on did ≡ true → laid_of self.new ≡ laid_by_next self.old frame.old (instr_at functions.now (frame_of frame.old))) }
     {
         match functions.get(frame.function) {
             None => self.do_nothing(frame),
@@ -77,7 +95,7 @@ impl Parts {
     #[tactic(auto, using(crate::proofs::Nothing::ends_nothing))]
     fn do_nothing(&self, frame: &mut Frame) -> Result<Change, NoMemory>
         ensures outcome { IfOk result (λ did. (functions : List flat.FlatFunction) → (below : List machine.Frame) → outcome_by functions did self.now frame.new below ≡ does functions self.now frame.old below (slice_get (Step ∷ Return None ∷ []) frame.old.place)) }
-        ensures heap { heap_of self.now ≡ heap_by_next self.now frame.old (slice_get (Step ∷ Return None ∷ []) frame.old.place) }
+        ensures laid { laid_of self.now ≡ laid_by_next self.now frame.old (slice_get (Step ∷ Return None ∷ []) frame.old.place) }
     {
         match frame.place {
             0 => {
@@ -98,7 +116,7 @@ impl Parts {
     ) -> Result<Change, NoMemory>
         requires { self.old.world.memory.memory.next < 2 ^ 62 }
         ensures outcome { IfOk result (λ did. (below : List machine.Frame) → outcome_by functions.now did self.new frame.new below ≡ does functions.now self.old frame.old below (option_copied next.entry)) }
-        ensures heap { IfOk result (λ did. is_on did ≡ true → heap_of self.new ≡ heap_by_next self.old frame.old (option_copied next.entry)) }
+        ensures laid { IfOk result (λ did. is_on did ≡ true → laid_of self.new ≡ laid_by_next self.old frame.old (option_copied next.entry)) }
     {
         match next {
             None => Ok(Change::Ends(End::Exit(0))),
@@ -114,7 +132,7 @@ impl Parts {
     ) -> Result<Change, NoMemory>
         requires { self.old.world.memory.memory.next < 2 ^ 62 }
         ensures outcome { IfOk result (λ did. (below : List machine.Frame) → outcome_by functions.now did self.new frame.new below ≡ does functions.now self.old frame.old below (Some x.now)) }
-        ensures heap { IfOk result (λ did. is_on did ≡ true → heap_of self.new ≡ heap_by_next self.old frame.old (Some x.now)) }
+        ensures laid { IfOk result (λ did. is_on did ≡ true → laid_of self.new ≡ laid_by_next self.old frame.old (Some x.now)) }
     {
         match x {
             Instr::Step => self.begin(frame),
@@ -140,7 +158,7 @@ impl Parts {
         requires few { self.old.world.memory.memory.next < 2 ^ 62 }
         requires works { works x.now ≡ true }
         ensures outcome { IfOk result (λ did. (functions : List flat.FlatFunction) → (below : List machine.Frame) → outcome_by functions did self.new frame.new below ≡ does functions self.old frame.old below (Some x.now)) }
-        ensures heap { IfOk result (λ did. is_on did ≡ true → heap_of self.new ≡ heap_by_next self.old frame.old (Some x.now)) }
+        ensures laid { IfOk result (λ did. is_on did ≡ true → laid_of self.new ≡ laid_by_next self.old frame.old (Some x.now)) }
     {
         match x {
             Instr::Zero(k) => self.zero(frame, *k),
@@ -164,7 +182,7 @@ impl Parts {
         v: Cell,
     ) -> Result<Result<(), u16>, NoMemory>
         ensures outcome { IfOk result (λ did. (below : List machine.Frame) → goes_back did self.new caller.new below ≡ in_call awaited self.old caller.old below (target_in (instr_at functions.now (frame_of caller.old))) v) }
-        ensures heap { heap_of self.new ≡ heap_of self.old }
+        ensures laid { laid_of self.new ≡ laid_of self.old }
     {
         match target(functions, caller) {
             None => {
@@ -182,7 +200,7 @@ impl Parts {
         v: Cell,
     ) -> Result<Result<(), u16>, NoMemory>
         ensures outcome { IfOk result (λ did. (below : List machine.Frame) → goes_back did self.new caller.new below ≡ in_call awaited self.old caller.old below (Some target.now) v) }
-        ensures heap { heap_of self.new ≡ heap_of self.old }
+        ensures laid { laid_of self.new ≡ laid_of self.old }
     {
         let v = read(target.kind, v);
         match self.world.store(&caller.variables, &target.place, v) {

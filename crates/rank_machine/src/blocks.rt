@@ -3,21 +3,14 @@
 ghost use Rattle.std.specs.Prelude.{◌≡◌, ◌≤◌, IfOk, length};
 ghost use Rattle.std.specs.Prelude as lists;
 ghost use Rattle.flat_code.specs.Placed.{first_fit, insert_block, without_block};
-ghost use Rattle.rank_machine.specs.declared.blocks.Block as block;
+ghost use Rattle.variable_stack.specs.declared.Descriptor as descriptor;
 ghost use Rattle.rank_machine.specs.Blocks.{block_of, blocks_of};
 
 use std::alloc::AllocError;
-
-/// Where an object stands: its serial, its first cell's place and its length.
-#[derive(Clone, Copy)]
-pub struct Block {
-    pub serial: u64,
-    pub place: u32,
-    pub length: u32,
-}
+use variable_stack::Descriptor;
 
 /// The lowest place where so many cells fit among 65,536.
-pub fn fit(blocks: &[Block], n: u32) -> Option<u32>
+pub fn fit(blocks: &[Descriptor], n: u32) -> Option<u32>
     requires { n ≤ 65536 }
     ensures { result ≡ first_fit (blocks_of blocks.now) 0 n }
 {
@@ -36,7 +29,7 @@ pub fn fit(blocks: &[Block], n: u32) -> Option<u32>
 }
 
 /// A block comes among the others.
-pub fn insert(blocks: &mut Vec<Block>, block: Block) -> Result<(), AllocError>
+pub fn insert(blocks: &mut Vec<Descriptor>, block: Descriptor) -> Result<(), AllocError>
     ensures { IfOk result (λ done. blocks_of blocks.new.items ≡ insert_block (block_of block) (blocks_of blocks.old.items)) }
 {
     let at = place_of(blocks, block.place);
@@ -46,9 +39,9 @@ pub fn insert(blocks: &mut Vec<Block>, block: Block) -> Result<(), AllocError>
 
 // Where a block with a place stands among the others.
 #[tactic(auto, using(crate::proofs::Insertions::inserted, crate::proofs::Insertions::added))]
-fn place_of(blocks: &[Block], place: u32) -> usize
+fn place_of(blocks: &[Descriptor], place: u32) -> usize
     ensures within { result ≤ length blocks.now }
-    ensures order { (b : block.Block) → b.place ≡ place → blocks_of (lists.insert blocks.now result b) ≡ insert_block (block_of b) (blocks_of blocks.now) }
+    ensures order { (b : descriptor.Descriptor) → b.place ≡ place → blocks_of (lists.insert blocks.now result b) ≡ insert_block (block_of b) (blocks_of blocks.now) }
 {
     for at in 0..blocks.len() {
         if place < blocks[at].place {
@@ -60,7 +53,7 @@ fn place_of(blocks: &[Block], place: u32) -> usize
 
 /// The block of a serial goes.
 #[tactic(auto, using(crate::proofs::Removals::removed, crate::proofs::Removals::missing))]
-pub fn remove(blocks: &mut Vec<Block>, serial: u64)
+pub fn remove(blocks: &mut Vec<Descriptor>, serial: u64)
     ensures { blocks_of blocks.new.items ≡ without_block (blocks_of blocks.old.items) serial }
 {
     for at in 0..blocks.len() {

@@ -1,6 +1,6 @@
 //! Instructions that lead on: jumps, calls and returns, and the stacks of sites and descriptors.
 
-ghost use Rattle.std.specs.Prelude.{◌≡◌, ◌∷◌, ◌++◌, ◌+◌, ◌<◌, ◌^◌, if◌then◌else◌, IfOk, IfErr, List, length, map, reverse, drop, true};
+ghost use Rattle.std.specs.Prelude.{◌≡◌, ◌∷◌, ◌++◌, ◌+◌, ◌-◌, ◌<◌, ◌^◌, if◌then◌else◌, IfOk, IfErr, List, length, map, reverse, drop, take, true};
 ghost use Rattle.c_memory.specs.Memory.{map_ok};
 ghost use Rattle.c_memory.specs.Memory as spec;
 ghost use Rattle.c_values.specs.Value as values;
@@ -9,9 +9,11 @@ ghost use Rattle.c_values.specs.Variables.{variables_from};
 ghost use Rattle.flat_code.specs.declared.code.FlatFunction as flat;
 ghost use Rattle.flat_code.specs.Machine.{Goes, descriptors, enters, goes_to, lengths_in, with_ok};
 ghost use Rattle.flat_code.specs.Machine as machine;
+ghost use Rattle.rank_machine.specs.Layout.{described_by};
 ghost use Rattle.rank_machine.specs.declared.frame.Frame as frames;
-ghost use Rattle.rank_machine.specs.State.{outcome_by, in_call, frame_of, heap_of, machine_with};
+ghost use Rattle.rank_machine.specs.State.{outcome_by, in_call, frame_of, laid_of, machine_with};
 
+use crate::describe::{describe, forget};
 use crate::frame::{Frame, after};
 use crate::memory::PlacedMemory;
 use crate::parts::{Change, Parts, fault};
@@ -65,8 +67,8 @@ impl Parts {
 
     /// A site comes onto the others.
     pub fn push_site(&mut self, frame: &mut Frame, site: u32) -> Result<Change, NoMemory>
-        ensures outcome { IfOk result (λ did. (functions : List flat.FlatFunction) → (below : List machine.Frame) → outcome_by functions did self.new frame.new below ≡ goes_to (record (machine_with self.old frame.old below) { sites = site ∷ reverse self.old.sites.items }) (frame_of frame.old) below (frame.old.place + 1)) }
-        ensures heap { heap_of self.new ≡ heap_of self.old }
+        ensures outcome { IfOk result (λ did. (functions : List flat.FlatFunction) → (below : List machine.Frame) → outcome_by functions did self.new frame.new below ≡ goes_to (record (machine_with self.old frame.old below) { sites = site ∷ reverse self.old.sites.sites }) (frame_of frame.old) below (frame.old.place + 1)) }
+        ensures laid { laid_of self.new ≡ laid_of self.old }
     {
         self.sites.push(site)?;
         frame.place = after(frame.place)?;
@@ -75,8 +77,8 @@ impl Parts {
 
     /// The newest site goes.
     pub fn pop_site(&mut self, frame: &mut Frame) -> Result<Change, NoMemory>
-        ensures outcome { IfOk result (λ did. (functions : List flat.FlatFunction) → (below : List machine.Frame) → outcome_by functions did self.new frame.new below ≡ goes_to (record (machine_with self.old frame.old below) { sites = drop 1 (reverse self.old.sites.items) }) (frame_of frame.old) below (frame.old.place + 1)) }
-        ensures heap { heap_of self.new ≡ heap_of self.old }
+        ensures outcome { IfOk result (λ did. (functions : List flat.FlatFunction) → (below : List machine.Frame) → outcome_by functions did self.new frame.new below ≡ goes_to (record (machine_with self.old frame.old below) { sites = drop 1 (reverse self.old.sites.sites) }) (frame_of frame.old) below (frame.old.place + 1)) }
+        ensures laid { laid_of self.new ≡ laid_of self.old }
     {
         let _ = self.sites.pop();
         frame.place = after(frame.place)?;
@@ -85,18 +87,18 @@ impl Parts {
 
     /// Each variable gets a descriptor.
     pub fn describe(&mut self, frame: &mut Frame) -> Result<Change, NoMemory>
-        ensures outcome { IfOk result (λ did. (functions : List flat.FlatFunction) → (below : List machine.Frame) → outcome_by functions did self.new frame.new below ≡ goes_to (record (machine_with self.old frame.old below) { described = descriptors frame.old.variables ++ reverse self.old.described.items }) (frame_of frame.old) below (frame.old.place + 1)) }
-        ensures heap { heap_of self.new ≡ heap_of self.old }
+        ensures outcome { IfOk result (λ did. (functions : List flat.FlatFunction) → (below : List machine.Frame) → outcome_by functions did self.new frame.new below ≡ goes_to (record (machine_with self.old frame.old below) { described = descriptors frame.old.variables ++ reverse (map (λ d. d.serial) self.old.described) }) (frame_of frame.old) below (frame.old.place + 1)) }
+        ensures laid { IfOk result (λ did. laid_of self.new ≡ record (laid_of self.old) { stack = (laid_of self.old).stack ++ described_by self.old.world.memory.memory frame.old.variables }) }
     {
-        describe(&mut self.described, frame.variables)?;
+        describe(&mut self.described, &self.world.memory, frame.variables)?;
         frame.place = after(frame.place)?;
         Ok(Change::Goes { began: false })
     }
 
     /// The function's descriptors go.
     pub fn forget(&mut self, frame: &mut Frame) -> Result<Change, NoMemory>
-        ensures outcome { IfOk result (λ did. (functions : List flat.FlatFunction) → (below : List machine.Frame) → outcome_by functions did self.new frame.new below ≡ goes_to (record (machine_with self.old frame.old below) { described = drop frame.old.variables.count (reverse self.old.described.items) }) (frame_of frame.old) below (frame.old.place + 1)) }
-        ensures heap { heap_of self.new ≡ heap_of self.old }
+        ensures outcome { IfOk result (λ did. (functions : List flat.FlatFunction) → (below : List machine.Frame) → outcome_by functions did self.new frame.new below ≡ goes_to (record (machine_with self.old frame.old below) { described = drop frame.old.variables.count (reverse (map (λ d. d.serial) self.old.described)) }) (frame_of frame.old) below (frame.old.place + 1)) }
+        ensures laid { laid_of self.new ≡ record (laid_of self.old) { stack = take (length (laid_of self.old).stack - frame.old.variables.count) (laid_of self.old).stack } }
     {
         forget(&mut self.described, frame.variables.count);
         frame.place = after(frame.place)?;
@@ -113,7 +115,7 @@ impl Parts {
     ) -> Result<Change, NoMemory>
         requires { self.old.world.memory.memory.next < 2 ^ 62 }
         ensures outcome { IfOk result (λ did. (below : List machine.Frame) → outcome_by functions.now did self.new caller.now below ≡ with_ok (values_of arguments.now caller.now.variables self.old.world.memory.memory) (enters functions.now (machine_with self.old caller.now below) (frame_of caller.now ∷ below) function)) }
-        ensures heap { IfOk result (λ did. heap_of self.new ≡ heap_of self.old) }
+        ensures laid { IfOk result (λ did. laid_of self.new ≡ laid_of self.old) }
     {
         match values(self.alloc, arguments, &caller.variables, &self.world.memory)? {
             Err(code) => fault(code),
@@ -130,7 +132,7 @@ impl Parts {
     ) -> Result<Change, NoMemory>
         requires { self.old.world.memory.memory.next < 2 ^ 62 }
         ensures outcome { IfOk result (λ did. (caller : frames.Frame) → (below : List machine.Frame) → outcome_by functions.now did self.new caller below ≡ enters functions.now (machine_with self.old caller below) (frame_of caller ∷ below) function arguments.now) }
-        ensures heap { IfOk result (λ did. heap_of self.new ≡ heap_of self.old) }
+        ensures laid { IfOk result (λ did. laid_of self.new ≡ laid_of self.old) }
     {
         let first = self.world.memory.next();
         match reserve(self.alloc, &mut self.world.memory, functions, function)? {
@@ -197,22 +199,4 @@ fn cells_of(alloc: Global, types: &[ObjectType]) -> Result<Vec<u32>, AllocError>
         lengths.push(t.cells)?;
     }
     Ok(lengths)
-}
-
-// Descriptors of these variables.
-fn describe(described: &mut Vec<u64>, variables: Variables) -> Result<(), AllocError>
-    requires { variables.first + variables.count < 2 ^ 64 }
-    ensures { IfOk result (λ done. reverse described.new.items ≡ descriptors variables ++ reverse described.old.items) }
-{
-    for k in 0..variables.count {
-        described.push(variables.first + k as u64)?;
-    }
-    Ok(())
-}
-
-// So many descriptors go.
-fn forget(described: &mut Vec<u64>, count: usize)
-    ensures { reverse described.new.items ≡ drop count (reverse described.old.items) }
-{
-    described.truncate(described.len().saturating_sub(count));
 }

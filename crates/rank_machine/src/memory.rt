@@ -1,16 +1,20 @@
 //! A program's memory, with the places of the objects of `malloc`.
 
-ghost use Rattle.std.specs.Prelude.{◌≡◌, ◌+◌, ◌<◌, ◌≤◌, ◌^◌, [], length, IfOk, IfErr, IfSome, Some, None};
-ghost use Rattle.c_memory.specs.Memory.{empty, zeroed, enter, leave, free, map_ok, malloc};
+mod resumed;
+
+ghost use Rattle.std.specs.Prelude.{◌≡◌, ◌+◌, ◌<◌, ◌≤◌, ◌^◌, [], length, IfOk, IfErr, IfSome, Some, None, unwrap_or};
+ghost use Rattle.c_memory.specs.Memory.{cells_of, empty, zeroed, enter, leave, free, map_ok, malloc, used};
 ghost use Rattle.c_memory.specs.Memory as spec;
 ghost use Rattle.flat_code.specs.Placed.{first_fit, none_fits, without_block};
 ghost use Rattle.flat_code.specs.Placed as placed;
+ghost use Rattle.rank_machine.specs.Blocks.{blocks_of};
 
-use crate::blocks::{Block, fit, insert, remove};
+use crate::blocks::{fit, insert, remove};
 use c_memory::{Memory, NULL, Objects, Spot};
 use c3_base::{Cell, NoMemory};
 use std::alloc::Global;
 use std::marker::Model;
+use variable_stack::Descriptor;
 
 /// A memory, and where the objects of `malloc` stand. After want of memory it is empty.
 #[derive(Drop)]
@@ -18,7 +22,7 @@ pub struct PlacedMemory {
     alloc: Global,
     memory: Memory,
     /// By ascending places.
-    blocks: Vec<Block>,
+    blocks: Vec<Descriptor>,
 }
 
 impl Model for PlacedMemory {
@@ -50,6 +54,28 @@ impl PlacedMemory {
         ensures { result ≡ self.now.memory.next }
     {
         self.memory.next()
+    }
+
+    /// The cells of the stack in use.
+    pub fn in_use(&self) -> usize
+        ensures used { result ≡ used self.now.memory }
+        ensures few { result ≤ 8192 }
+    {
+        self.memory.in_use()
+    }
+
+    /// The cells of the object of a serial, or none where there is no such object.
+    pub fn object(&self, serial: u64) -> &[Cell]
+        ensures { result.now ≡ unwrap_or (cells_of self.now.memory serial) [] }
+    {
+        self.memory.object(serial)
+    }
+
+    /// Where the objects of `malloc` stand.
+    pub fn blocks(&self) -> &[Descriptor]
+        ensures { blocks_of result.now ≡ self.now.blocks }
+    {
+        &self.blocks
     }
 
     /// The cells of a variable become (0, 0).
@@ -115,7 +141,7 @@ impl PlacedMemory {
         ensures place { result ≡ first_fit self.now.blocks 0 n }
         ensures few { IfSome result (λ place. place + n ≤ 65536) }
     {
-        let blocks: &[Block] = &self.blocks;
+        let blocks: &[Descriptor] = &self.blocks;
         if n > 65_536 {
             return None;
         }
@@ -147,7 +173,7 @@ impl PlacedMemory {
         ensures blocks { IfOk result (λ given. self.new.blocks ≡ placed.allocated self.old.blocks self.old.memory.next (Some n)) }
     {
         let serial = self.memory.next();
-        let block = Block {
+        let block = Descriptor {
             serial,
             place,
             length: n,

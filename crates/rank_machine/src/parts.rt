@@ -9,15 +9,17 @@ use crate::memory::PlacedMemory;
 use c3_base::{Cell, NoMemory};
 use mpi_effects::World;
 use mpi_words::End;
+use position_stack::PositionStack;
 use std::alloc::Global;
+use variable_stack::VariableStack;
 
-/// What instructions act on, beside the calls. The newest site and descriptor are the last.
+/// What instructions act on, beside the calls.
 #[derive(Drop)]
 pub struct Parts {
     pub alloc: Global,
     pub world: World<PlacedMemory>,
-    pub sites: Vec<u32>,
-    pub described: Vec<u64>,
+    pub sites: PositionStack,
+    pub described: VariableStack,
 }
 
 /// What an instruction came to in the newest call.

@@ -1,12 +1,12 @@
 //! A program that runs, and its steps.
 
-ghost use Rattle.std.specs.Prelude.{◌≡◌, IfOk, true};
+ghost use Rattle.std.specs.Prelude.{◌≡◌, IfOk, None, true};
 ghost use Rattle.rank_machine.specs.Placing as spec;
 ghost use Rattle.flat_code.specs.Machine.{answered, returned, step, step_in};
 ghost use Rattle.flat_code.specs.Placed.{none_fits};
-ghost use Rattle.rank_machine.specs.Placing.{end_by, heap_after, heap_in};
+ghost use Rattle.rank_machine.specs.Placing.{end_by, laid_after, laid_in};
 ghost use Rattle.rank_machine.specs.Running.{goes_on, outcome_of, placing_of, state_of};
-ghost use Rattle.rank_machine.specs.State.{answer_of, frame_of, frames_of, heap_of, is_on, machine_with, outcome_by};
+ghost use Rattle.rank_machine.specs.State.{answer_of, frame_of, frames_of, heap_of, is_on, laid_of, left_of, machine_with, outcome_by};
 
 use crate::act::begins;
 use crate::frame::Frame;
@@ -58,7 +58,7 @@ impl Running {
     /// One step. Without a reply an operation is wanted again.
     pub fn step(&mut self, functions: &[FlatFunction]) -> Result<Step, NoMemory>
         ensures outcome { IfOk result (λ did. outcome_of did (state_of self.new) ≡ step functions.now (none_fits (heap_of self.old.parts)) (state_of self.old)) }
-        ensures heap { IfOk result (λ did. goes_on did ≡ true → heap_of self.new.parts ≡ heap_after functions.now (placing_of self.old)) }
+        ensures laid { IfOk result (λ did. goes_on did ≡ true → laid_of self.new.parts ≡ laid_after functions.now (placing_of self.old)) }
     {
         match &self.parts.world.requests.asked {
             None => self.step_in(functions),
@@ -68,7 +68,7 @@ impl Running {
 
     fn step_in(&mut self, functions: &[FlatFunction]) -> Result<Step, NoMemory>
         ensures outcome { IfOk result (λ did. outcome_of did (state_of self.new) ≡ step_in functions.now (none_fits (heap_of self.old.parts)) (state_of self.old) (frames_of self.old.frames.items)) }
-        ensures heap { IfOk result (λ did. goes_on did ≡ true → heap_of self.new.parts ≡ heap_in functions.now (state_of self.old) (heap_of self.old.parts) (frames_of self.old.frames.items)) }
+        ensures laid { IfOk result (λ did. goes_on did ≡ true → laid_of self.new.parts ≡ laid_in functions.now (state_of self.old) (laid_of self.old.parts) (frames_of self.old.frames.items)) }
     {
         let Some(mut frame) = self.frames.pop() else {
             return Ok(Step::Ended(End::Fault(108)));
@@ -89,7 +89,7 @@ impl Running {
         did: Change,
     ) -> Result<Step, NoMemory>
         ensures outcome { IfOk result (λ step. outcome_of step (state_of self.new) ≡ outcome_by functions.now did self.old.parts frame (frames_of self.old.frames.items)) }
-        ensures heap { heap_of self.new.parts ≡ heap_of self.old.parts }
+        ensures laid { laid_of self.new.parts ≡ laid_of self.old.parts }
         ensures on { IfOk result (λ step. goes_on step ≡ true → is_on did ≡ true) }
     {
         match did {
@@ -119,7 +119,7 @@ impl Running {
         v: Cell,
     ) -> Result<Step, NoMemory>
         ensures outcome { IfOk result (λ did. outcome_of did (state_of self.new) ≡ returned functions.now (machine_with self.old.parts frame (frames_of self.old.frames.items)) (frame_of frame) (frames_of self.old.frames.items) v) }
-        ensures heap { heap_of self.new.parts ≡ heap_of self.old.parts }
+        ensures laid { laid_of self.new.parts ≡ laid_of self.old.parts }
     {
         self.parts.world.memory.leave(frame.variables.count);
         let Some(mut caller) = self.frames.pop() else {
@@ -137,7 +137,9 @@ impl Running {
     /// The reply to the operation that waits for one, and how the program ends where a message is a fault.
     pub fn answer(&mut self, reply: Reply) -> Option<End>
         ensures answer { answer_of result (state_of self.new) ≡ answered (state_of self.old) reply }
-        ensures heap { heap_of self.new.parts ≡ heap_of self.old.parts }
+        ensures laid { laid_of self.new.parts ≡ laid_of self.old.parts }
+        ensures left { left_of self.new.parts ≡ left_of self.old.parts }
+        ensures asked { self.new.parts.world.requests.asked ≡ None }
         ensures end { self.new.end ≡ end_by result self.old.end }
     {
         match self.parts.answer(reply) {

@@ -8,7 +8,7 @@ ghost use Rattle.flat_code.specs.declared.code.Instr.TheVariants.{Malloc, Free};
 ghost use Rattle.flat_code.specs.Machine.{allocates, goes_with, stores, with_ok};
 ghost use Rattle.flat_code.specs.Machine as machine;
 ghost use Rattle.flat_code.specs.Placed.{allocated, none_fits, without_block};
-ghost use Rattle.rank_machine.specs.State.{heap_by_next, heap_of, in_call, is_on, outcome_by};
+ghost use Rattle.rank_machine.specs.State.{heap_of, in_call, laid_by_next, laid_of, is_on, outcome_by};
 
 use crate::frame::{Frame, after};
 use crate::parts::{Change, Parts, fault};
@@ -22,7 +22,7 @@ impl Parts {
     /// A variable gets zeros.
     pub fn zero(&mut self, frame: &mut Frame, k: usize) -> Result<Change, NoMemory>
         ensures outcome { IfOk result (λ did. (functions : List FlatFunction) → (below : List machine.Frame) → outcome_by functions did self.new frame.new below ≡ in_call goes_with self.old frame.old below (frame.old.place + 1) (zeroed self.old.world.memory.memory (variable_of k frame.old.variables).serial)) }
-        ensures heap { heap_of self.new ≡ heap_of self.old }
+        ensures laid { laid_of self.new ≡ laid_of self.old }
     {
         self.world.memory.zero(variable(k, &frame.variables).serial);
         frame.place = after(frame.place)?;
@@ -37,7 +37,7 @@ impl Parts {
         e: &Expr,
     ) -> Result<Change, NoMemory>
         ensures outcome { IfOk result (λ did. (functions : List FlatFunction) → (below : List machine.Frame) → outcome_by functions did self.new frame.new below ≡ with_ok (value_of e.now frame.old.variables self.old.world.memory.memory) (in_call stores self.old frame.old below (frame.old.place + 1) place.now)) }
-        ensures heap { heap_of self.new ≡ heap_of self.old }
+        ensures laid { laid_of self.new ≡ laid_of self.old }
     {
         match self.world.set(&frame.variables, place, e) {
             Err(code) => fault(code),
@@ -51,7 +51,7 @@ impl Parts {
     // A value is stored at a place.
     fn store(&mut self, frame: &mut Frame, place: &Place<Expr>, v: Cell) -> Result<Change, NoMemory>
         ensures outcome { IfOk result (λ did. (functions : List FlatFunction) → (below : List machine.Frame) → outcome_by functions did self.new frame.new below ≡ in_call stores self.old frame.old below (frame.old.place + 1) place.now v) }
-        ensures heap { heap_of self.new ≡ heap_of self.old }
+        ensures laid { laid_of self.new ≡ laid_of self.old }
     {
         match self.world.store(&frame.variables, place, v) {
             Err(code) => fault(code),
@@ -72,7 +72,7 @@ impl Parts {
     ) -> Result<Change, NoMemory>
         requires { self.old.world.memory.memory.next < 2 ^ 62 }
         ensures outcome { IfOk result (λ did. (functions : List FlatFunction) → (below : List machine.Frame) → outcome_by functions did self.new frame.new below ≡ with_ok (value_of bytes.now frame.old.variables self.old.world.memory.memory) (λ n. in_call (allocates (none_fits (heap_of self.old))) self.old frame.old below (frame.old.place + 1) place.now (cells_asked n.word each))) }
-        ensures heap { IfOk result (λ did. heap_of self.new ≡ heap_by_next self.old frame.old (Some (Malloc place.now bytes.now each))) }
+        ensures laid { IfOk result (λ did. laid_of self.new ≡ laid_by_next self.old frame.old (Some (Malloc place.now bytes.now each))) }
     {
         match value(bytes, &frame.variables, &self.world.memory) {
             Err(code) => fault(code),
@@ -89,7 +89,7 @@ impl Parts {
     ) -> Result<Change, NoMemory>
         requires { self.old.world.memory.memory.next < 2 ^ 62 }
         ensures outcome { IfOk result (λ did. (functions : List FlatFunction) → (below : List machine.Frame) → outcome_by functions did self.new frame.new below ≡ in_call (allocates (none_fits (heap_of self.old))) self.old frame.old below (frame.old.place + 1) place.now asked) }
-        ensures heap { IfOk result (λ did. heap_of self.new ≡ allocated (heap_of self.old) self.old.world.memory.memory.next asked) }
+        ensures laid { IfOk result (λ did. laid_of self.new ≡ record (laid_of self.old) { heap = allocated (heap_of self.old) self.old.world.memory.memory.next asked }) }
     {
         let given = self.world.memory.give(asked)?;
         self.store(frame, place, given)
@@ -98,7 +98,7 @@ impl Parts {
     /// `free`, after which the object's place is free too.
     pub fn free(&mut self, frame: &mut Frame, e: &Expr) -> Result<Change, NoMemory>
         ensures outcome { IfOk result (λ did. (functions : List FlatFunction) → (below : List machine.Frame) → outcome_by functions did self.new frame.new below ≡ with_ok (value_of e.now frame.old.variables self.old.world.memory.memory) (λ p. with_ok (free self.old.world.memory.memory p) (in_call goes_with self.old frame.old below (frame.old.place + 1)))) }
-        ensures heap { IfOk result (λ did. is_on did ≡ true → heap_of self.new ≡ heap_by_next self.old frame.old (Some (Free e.now))) }
+        ensures laid { IfOk result (λ did. is_on did ≡ true → laid_of self.new ≡ laid_by_next self.old frame.old (Some (Free e.now))) }
     {
         match value(e, &frame.variables, &self.world.memory) {
             Err(code) => fault(code),
@@ -108,7 +108,7 @@ impl Parts {
 
     fn free_object(&mut self, frame: &mut Frame, pointer: Cell) -> Result<Change, NoMemory>
         ensures outcome { IfOk result (λ did. (functions : List FlatFunction) → (below : List machine.Frame) → outcome_by functions did self.new frame.new below ≡ with_ok (free self.old.world.memory.memory pointer) (in_call goes_with self.old frame.old below (frame.old.place + 1))) }
-        ensures heap { IfOk result (λ did. is_on did ≡ true → heap_of self.new ≡ without_block (heap_of self.old) pointer.serial) }
+        ensures laid { IfOk result (λ did. is_on did ≡ true → laid_of self.new ≡ record (laid_of self.old) { heap = without_block (heap_of self.old) pointer.serial }) }
     {
         match self.world.memory.free(pointer) {
             Err(code) => fault(code),

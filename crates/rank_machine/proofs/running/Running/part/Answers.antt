@@ -10,7 +10,7 @@ returns-then-not-begins c =
     let fs = c.args.functions.now in
     let p = placing_of c.args.self.now in
     let b : begins fs p ≡ false = sym c.begins.ensures ∙ cc in
-    IfOk-weaker c.wanted.result _ _ (λ want w. went fs c.args.left.now p (placing_of c.step.new.self) c.in_ok-did.did want b (record { outcome = c.in_ok-did.ensures.outcome; heap = c.in_ok-did.ensures.heap; wanted = w })) c.wanted.ensures
+    IfOk-weaker c.wanted.result _ _ (λ want w. went fs c.args.left.now p (placing_of c.step.new.self) c.in_ok-did.did want b (record { outcome = c.in_ok-did.ensures.outcome; laid = c.in_ok-did.ensures.laid; wanted = w })) c.wanted.ensures
 
 pub returns-then-left-eq0 : goal.returns-then-left-eq0
 returns-then-left-eq0 c =
@@ -25,4 +25,4 @@ returns c =
     let p = placing_of c.args.self.now in
     let b : begins fs p ≡ true = sym c.begins.ensures ∙ cc in
     let f : c.args.left.now ≡ suc (c.args.left.now - 1) = omega arith in
-    IfOk-weaker c.wanted-2.result _ _ (λ want w. began fs c.args.left.now (c.args.left.now - 1) p (placing_of c.step-2.new.self) c.in_ok-did-2.did want f b (record { outcome = c.in_ok-did-2.ensures.outcome; heap = c.in_ok-did-2.ensures.heap; wanted = w })) c.wanted-2.ensures
+    IfOk-weaker c.wanted-2.result _ _ (λ want w. began fs c.args.left.now (c.args.left.now - 1) p (placing_of c.step-2.new.self) c.in_ok-did-2.did want f b (record { outcome = c.in_ok-did-2.ensures.outcome; laid = c.in_ok-did-2.ensures.laid; wanted = w })) c.wanted-2.ensures
