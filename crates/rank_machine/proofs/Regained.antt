@@ -81,8 +81,8 @@ found_among done [] h n k d l = let no : ⊥ = omega (arith, l) in absurd no
 found_among done (o ∷ os) h n zero d l = found_old (insert_object (object_of o) done) os o.serial o.cells h.0 (find_new (object_of o) done (all_head (λ (x : SavedObject). find_object done x.serial ≡ None) o os n))
 found_among done (o ∷ os) h n (suc k) d l =
     found_among (insert_object (object_of o) done) os h.1
-      (λ j e m. none_inserted (object_of o) done (get_or os j e).serial (λ same. h.0 j e m (sym same)) (all_tail (λ (x : SavedObject). find_object done x.serial ≡ None) o os n j e m))
-      k d (omega (arith, l))
+    (λ j e m. none_inserted (object_of o) done (get_or os j e).serial (λ same. h.0 j e m (sym same)) (all_tail (λ (x : SavedObject). find_object done x.serial ≡ None) o os n j e m))
+    k d (omega (arith, l))
 
 -- ---- what stands where
 
