@@ -14,7 +14,7 @@ use Rattle.c_tree.specs.declared.tree.Stmt.TheVariants as stmt
 use Rattle.c_tree.specs.declared.tree.Stmt.TheViews.{roll-Stmt}
 use Rattle.c_kernel.specs.declared.types.CType.{CType}
 use Rattle.c_kernel.specs.declared.types.Struct.{Struct}
-use Rattle.c_rules.specs.declared.fault.Fault.{Fault}
+use Rattle.c_rules.specs.declared.breach.Breach.{Breach}
 use Rattle.c_rules.specs.declared.signature.Signature.{Signature}
 use Rattle.c_rules.specs.Judged.{gathered, of_part}
 use Rattle.c_rules.proofs.Gathered.{joined, joined_more}
@@ -39,18 +39,18 @@ step_found w ws s t all all' x whole e e' h h' =
     ∙ joined_more all (w s).judged.found (walk_all ws (w s).scope).judged.found
     ∙ e
 
-pub step_faults : {A : Type 0} (w : Walk A) (ws : List (Walk A)) (s t : Scope) (fs fs' whole : List Fault) → fs ++ (walk_all (w ∷ ws) s).judged.faults ≡ whole → fs' ≡ fs ++ (w s).judged.faults → t ≡ (w s).scope → fs' ++ (walk_all ws t).judged.faults ≡ whole
-step_faults w ws s t fs fs' whole e e' h =
-    ap (λ (gs : List Fault). gs ++ (walk_all ws t).judged.faults) e'
-    ∙ append_assoc fs (w s).judged.faults (walk_all ws t).judged.faults
-    ∙ ap (λ (u : Scope). fs ++ ((w s).judged.faults ++ (walk_all ws u).judged.faults)) h
+pub step_breaches : {A : Type 0} (w : Walk A) (ws : List (Walk A)) (s t : Scope) (fs fs' whole : List Breach) → fs ++ (walk_all (w ∷ ws) s).judged.breaches ≡ whole → fs' ≡ fs ++ (w s).judged.breaches → t ≡ (w s).scope → fs' ++ (walk_all ws t).judged.breaches ≡ whole
+step_breaches w ws s t fs fs' whole e e' h =
+    ap (λ (gs : List Breach). gs ++ (walk_all ws t).judged.breaches) e'
+    ∙ append_assoc fs (w s).judged.breaches (walk_all ws t).judged.breaches
+    ∙ ap (λ (u : Scope). fs ++ ((w s).judged.breaches ++ (walk_all ws u).judged.breaches)) h
     ∙ e
 
 pub step_scope : {A : Type 0} (w : Walk A) (ws : List (Walk A)) (s t whole : Scope) → (walk_all (w ∷ ws) s).scope ≡ whole → t ≡ (w s).scope → (walk_all ws t).scope ≡ whole
 step_scope w ws s t whole e h = ap (λ (u : Scope). (walk_all ws u).scope) h ∙ e
 
 -- what is noted of four parts in order
-pub noted : (old a b c d first second third new : List Fault) → first ≡ old ++ a → second ≡ first ++ b → third ≡ second ++ c → new ≡ third ++ d → new ≡ old ++ ((a ++ b) ++ (c ++ d))
+pub noted : (old a b c d first second third new : List Breach) → first ≡ old ++ a → second ≡ first ++ b → third ≡ second ++ c → new ≡ third ++ d → new ≡ old ++ ((a ++ b) ++ (c ++ d))
 noted old a b c d first second third new of_a of_b of_c of_d =
     of_d
     ∙ ap (λ fs. fs ++ d) of_c

@@ -3,7 +3,7 @@ use Rattle.std.proofs.Common.{◌≡◌, ℕ, ◌+◌, ◌<◌, get_or, drop, le
 use Rattle.c_tree.specs.declared.tree.Item.{Item}
 use Rattle.c_kernel.specs.declared.program.Function.{Function}
 use Rattle.c_kernel.specs.declared.types.Struct.{Struct}
-use Rattle.c_rules.specs.declared.fault.Fault.{Fault}
+use Rattle.c_rules.specs.declared.breach.Breach.{Breach}
 use Rattle.c_rules.specs.declared.signature.Signature.{Signature}
 use Rattle.c_rules.specs.Judged.{Judged, by, given, both}
 use Rattle.c_rules.specs.Scope.{Bytes}
@@ -21,7 +21,7 @@ module _ {A : Type 0} where
   found_more (Some xs) (Some ys) None = refl
   found_more (Some xs) (Some ys) (Some zs) = ap Some (append_assoc xs ys zs)
 
-  none_more : (a rest : Option (List A)) → (given (both a rest) (λ p. by [] (p.0 ++ p.1))).faults ≡ []
+  none_more : (a rest : Option (List A)) → (given (both a rest) (λ p. by [] (p.0 ++ p.1))).breaches ≡ []
   none_more None rest = refl
   none_more (Some xs) None = refl
   none_more (Some xs) (Some ys) = refl
@@ -53,13 +53,13 @@ module _ (functions : Bytes → Option Signature) (is : List Item) (at k next : 
       ∙ found_more all (one structs).found rest.found
       ∙ ap (λ js. joined all (items_judged functions structs k js).found) (sym (drop_next is at i within here))
 
-  pub items_faults : (noted faults : List Fault) → faults ≡ noted ++ (one passed).faults
-      → faults ++ (after later next).faults ≡ noted ++ (items_judged functions structs k (drop at is)).faults
-  items_faults noted faults x =
+  pub items_breaches : (noted breaches : List Breach) → breaches ≡ noted ++ (one passed).breaches
+      → breaches ++ (after later next).breaches ≡ noted ++ (items_judged functions structs k (drop at is)).breaches
+  items_breaches noted breaches x =
       let rest = after (with_item structs i) (next_number k i) in
-      let new = (one structs).faults in
-      ap (λ (j : Judged (List Function)). faults ++ j.faults) follows
-      ∙ ap (λ fs. fs ++ rest.faults) (x ∙ ap (λ ss. noted ++ (one ss).faults) same)
-      ∙ append_assoc noted new rest.faults
-      ∙ ap (λ fs. noted ++ fs) (sym (append-nil (new ++ rest.faults)) ∙ ap (λ fs. (new ++ rest.faults) ++ fs) (sym (none_more (one structs).found rest.found)))
-      ∙ ap (λ js. noted ++ (items_judged functions structs k js).faults) (sym (drop_next is at i within here))
+      let new = (one structs).breaches in
+      ap (λ (j : Judged (List Function)). breaches ++ j.breaches) follows
+      ∙ ap (λ fs. fs ++ rest.breaches) (x ∙ ap (λ ss. noted ++ (one ss).breaches) same)
+      ∙ append_assoc noted new rest.breaches
+      ∙ ap (λ fs. noted ++ fs) (sym (append-nil (new ++ rest.breaches)) ∙ ap (λ fs. (new ++ rest.breaches) ++ fs) (sym (none_more (one structs).found rest.found)))
+      ∙ ap (λ js. noted ++ (items_judged functions structs k js).breaches) (sym (drop_next is at i within here))

@@ -47,7 +47,7 @@ use Rattle.c_kernel.specs.declared.program.Stmt.TheOpen as typed_form
 use Rattle.c_kernel.specs.declared.program.Stmt.TheFolds.{fold-roll-Stmt as fold-roll-Typed}
 use Rattle.c_kernel.specs.Extent.{base_extent}
 use Rattle.c_kernel.specs.Regular.{has_cell, are_few, are_regular, is_body, is_regular, regular_node, is_regular_function, IsRegular}
-use Rattle.c_rules.specs.declared.fault.Fault.{Fault}
+use Rattle.c_rules.specs.declared.breach.Breach.{Breach}
 use Rattle.c_rules.specs.declared.found.Found.{Found}
 use Rattle.c_rules.specs.declared.signature.Signature.{Signature}
 use Rattle.c_rules.specs.Format.{pieces}
@@ -56,7 +56,7 @@ use Rattle.c_rules.specs.Rules.{main_name}
 use Rattle.c_rules.specs.Scope.{Bytes, Scope, is_here, enter, leave, start}
 use Rattle.c_rules.specs.Types.{type_of, specifier_rules, object_type, sized, room, is_array_size, element_cells, is_incomplete, is_too_large, is_void_base, is_struct_base, is_struct, one_object, first_structs}
 use Rattle.c_check.specs.Expression.{judged}
-use Rattle.c_check.specs.Functions.{is_main, parameter_type, parameters_of, result_of, parameter_place, is_bad_bound, is_unfit, is_named_here, parameter_rules, with_name, with_parameter, parameters_rules, with_parameters, parts_rules, heading_rules, name_rules, type_rules, next_number, number_in, signatures}
+use Rattle.c_check.specs.Functions.{is_main, parameter_type, parameters_of, result_of, parameter_at, is_bad_bound, is_unfit, is_named_here, parameter_rules, with_name, with_parameter, parameters_rules, with_parameters, parts_rules, heading_rules, name_rules, type_rules, next_number, number_in, signatures}
 use Rattle.c_check.specs.Mpi as mpi
 use Rattle.c_check.specs.Program.{body_item, made, body, item_judged, items_judged, program_of, main_in, Accepts}
 use Rattle.c_check.specs.Structs.{with_item}
@@ -135,7 +135,7 @@ pub record Keeps {A : Type 0} (Fine : ℕ → A → Type 0) (s : Scope) (w : Wal
   pub fine : (n : ℕ) → length w.scope.variables ≤ n → IfSome w.judged.found (Fine n)
 
 abbrev KeepsWalk : {A : Type 0} → (ℕ → A → Type 0) → Walk A → Type 0
-KeepsWalk Fine w = (s : Scope) → (w s).judged.faults ≡ [] → Keeps Fine s (w s)
+KeepsWalk Fine w = (s : Scope) → (w s).judged.breaches ≡ [] → Keeps Fine s (w s)
 
 abbrev KeepWalks : {A : Type 0} → (ℕ → A → Type 0) → List (Walk A) → Type 0
 KeepWalks Fine [] = Unit {0}
@@ -169,8 +169,8 @@ keep_all Fine [] all s e = record { grows = omega arith; cells = λ c. c; fine =
 keep_all Fine (w ∷ ws) all s e =
     let first = w s in
     let rest = walk_all ws first.scope in
-    let one = all.0 s (none_before first.judged.faults rest.judged.faults e) in
-    let others = keep_all Fine ws all.1 first.scope (none_behind first.judged.faults rest.judged.faults e) in
+    let one = all.0 s (none_before first.judged.breaches rest.judged.breaches e) in
+    let others = keep_all Fine ws all.1 first.scope (none_behind first.judged.breaches rest.judged.breaches e) in
     record {
       grows = omega (arith, one.grows, others.grows);
       cells = λ c. others.cells (one.cells c);
@@ -201,28 +201,28 @@ pub record Declares {A : Type 0} (count : ℕ) (s : Scope) (w : Walked A) (size 
   pub actions : IfSome w.judged.found (λ x. size x ≡ count)
 
 module _ (functions : Bytes → Option Signature) (structs : List Struct) where
-  variable_cells : (t : TypeSpecifier) (d : InitDeclarator) (s : Scope) → (walk.variable_walk functions structs t d s).judged.faults ≡ [] → Cells s.variables → Cells (walk.variable_walk functions structs t d s).scope.variables
+  variable_cells : (t : TypeSpecifier) (d : InitDeclarator) (s : Scope) → (walk.variable_walk functions structs t d s).judged.breaches ≡ [] → Cells s.variables → Cells (walk.variable_walk functions structs t d s).scope.variables
   variable_cells t d s e c =
-      let kind = type_of structs None t d.stars in
-      let rules = variable_rules structs s kind d in
+      let c_type = type_of structs None t d.stars in
+      let rules = variable_rules structs s c_type d in
       let none = none_before rules _ e in
       let again = breaks (is_here s d.name.bytes) kinds.Redeclared d.name.at in
-      let large = breaks (is_too_large structs kind (sizes_of d)) kinds.ArraySize d.name.at in
-      let whole = breaks (is_incomplete structs kind) kinds.IncompleteType d.name.at in
+      let large = breaks (is_too_large structs c_type (sizes_of d)) kinds.ArraySize d.name.at in
+      let whole = breaks (is_incomplete structs c_type) kinds.IncompleteType d.name.at in
       let not_large = none_behind again large (none_before (again ++ large) whole none) in
       let not_whole = none_behind (again ++ large) whole none in
-      cells_push s.variables (object_type structs kind (sizes_of d)) c (object_cell structs kind (sizes_of d) (unbroken (is_too_large structs kind (sizes_of d)) kinds.ArraySize d.name.at not_large) (unbroken (is_incomplete structs kind) kinds.IncompleteType d.name.at not_whole))
+      cells_push s.variables (object_type structs c_type (sizes_of d)) c (object_cell structs c_type (sizes_of d) (unbroken (is_too_large structs c_type (sizes_of d)) kinds.ArraySize d.name.at not_large) (unbroken (is_incomplete structs c_type) kinds.IncompleteType d.name.at not_whole))
 
-  declare_all : (t : TypeSpecifier) (ds : List InitDeclarator) (s : Scope) → (walk_all (map (walk.variable_walk functions structs t) ds) s).judged.faults ≡ [] → Declares (length ds) s (walk_all (map (walk.variable_walk functions structs t) ds) s) length
+  declare_all : (t : TypeSpecifier) (ds : List InitDeclarator) (s : Scope) → (walk_all (map (walk.variable_walk functions structs t) ds) s).judged.breaches ≡ [] → Declares (length ds) s (walk_all (map (walk.variable_walk functions structs t) ds) s) length
   declare_all t [] s e = record { number = omega arith; cells = λ c. c; actions = refl }
   declare_all t (d ∷ ds) s e =
       let first = walk.variable_walk functions structs t d s in
       let rest = walk_all (map (walk.variable_walk functions structs t) ds) first.scope in
-      let others = declare_all t ds first.scope (none_behind first.judged.faults rest.judged.faults e) in
+      let others = declare_all t ds first.scope (none_behind first.judged.breaches rest.judged.breaches e) in
       let pushed = length-append s.variables (object_type structs (type_of structs None t d.stars) (sizes_of d) ∷ []) in
       record {
         number = omega (arith, others.number, pushed);
-        cells = λ c. others.cells (variable_cells t d s (none_before first.judged.faults rest.judged.faults e) c);
+        cells = λ c. others.cells (variable_cells t d s (none_before first.judged.breaches rest.judged.breaches e) c);
         actions = one_more first.judged.found rest.judged.found (length ds) others.actions;
       }
     where
@@ -237,7 +237,7 @@ module _ (functions : Bytes → Option Signature) (structs : List Struct) where
   keep_declaration : (d : Declaration) → KeepsWalk FewActions (walk.declaration functions structs d)
   keep_declaration d s e =
       let variables = walk_all (map (walk.variable_walk functions structs d.specifier) d.declarators) s in
-      let declared = declare_all d.specifier d.declarators s (none_behind (specifier_rules structs None d.specifier) variables.judged.faults e) in
+      let declared = declare_all d.specifier d.declarators s (none_behind (specifier_rules structs None d.specifier) variables.judged.breaches e) in
       record {
         grows = omega (arith, declared.number);
         cells = declared.cells;
@@ -274,7 +274,7 @@ module _ (functions : Bytes → Option Signature) (structs : List Struct) where
   keep_guarded looping e w h s none =
       let test = walk.condition functions structs s e in
       let inside = w looping s in
-      let kept = h looping s (none_behind test.faults inside.judged.faults none) in
+      let kept = h looping s (none_behind test.breaches inside.judged.breaches none) in
       record {
         grows = kept.grows;
         cells = kept.cells;
@@ -341,8 +341,8 @@ module _ (functions : Bytes → Option Signature) (structs : List Struct) where
       let each : KeepWalks FineArm walks = (keep_arm looping e w h, all) in
       let first = walk.arms functions structs looping e w rest s in
       let second = walk.last_branch functions structs looping last first.scope in
-      let one = keep_all FineArm walks each s (none_before first.judged.faults second.judged.faults none) in
-      let two = end first.scope (none_behind first.judged.faults second.judged.faults none) in
+      let one = keep_all FineArm walks each s (none_before first.judged.breaches second.judged.breaches none) in
+      let two = end first.scope (none_behind first.judged.breaches second.judged.breaches none) in
       record {
         grows = omega (arith, one.grows, two.grows);
         cells = λ c. two.cells (one.cells c);
@@ -356,10 +356,10 @@ module _ (functions : Bytes → Option Signature) (structs : List Struct) where
       let inside = w true head.scope in
       let test = perhaps (walk.condition functions structs head.scope) e in
       let step = perhaps (walk.simple functions structs head.scope) x in
-      let none_first = none_before (head.judged.faults ++ test.faults) (step.faults ++ inside.judged.faults) none in
-      let none_last = none_behind (head.judged.faults ++ test.faults) (step.faults ++ inside.judged.faults) none in
-      let one = keep_start i s (none_before head.judged.faults test.faults none_first) in
-      let two = h true head.scope (none_behind step.faults inside.judged.faults none_last) in
+      let none_first = none_before (head.judged.breaches ++ test.breaches) (step.breaches ++ inside.judged.breaches) none in
+      let none_last = none_behind (head.judged.breaches ++ test.breaches) (step.breaches ++ inside.judged.breaches) none in
+      let one = keep_start i s (none_before head.judged.breaches test.breaches none_first) in
+      let two = h true head.scope (none_behind step.breaches inside.judged.breaches none_last) in
       record {
         grows = omega (arith, one.grows, two.grows);
         cells = λ c. two.cells (one.cells c);
@@ -371,7 +371,7 @@ module _ (functions : Bytes → Option Signature) (structs : List Struct) where
 
   -- ---- statements that have no parts
 
-  fine_sound : {A : Type 0} (P : A → Type 0) (fs : List Fault) (x : A) → P x → IfSome (sound fs x) P
+  fine_sound : {A : Type 0} (P : A → Type 0) (fs : List Breach) (x : A) → P x → IfSome (sound fs x) P
   fine_sound P [] x h = h
   fine_sound P (f ∷ fs) x h = tt
 
@@ -482,7 +482,7 @@ or_left : (a b : Bool) → (a || b) ≡ false → a ≡ false
 or_left true b e = e
 or_left false b e = refl
 
-rules_after : (fs gs : List Fault) → fs ≡ [] → unless_broken fs gs ≡ [] → gs ≡ []
+rules_after : (fs gs : List Breach) → fs ≡ [] → unless_broken fs gs ≡ [] → gs ≡ []
 rules_after [] gs e h = h
 rules_after (f ∷ fs) gs e h = absurd (not_none f fs e)
 
@@ -496,12 +496,12 @@ module _ (structs : List Struct) where
   parameter_cells main defined s p e c =
       let t = parameter_type structs p in
       let types = specifier_rules structs None p.specifier in
-      let again = breaks (is_named_here s p.name) kinds.Redeclared (parameter_place p) in
-      let bound = breaks (is_bad_bound p.array) kinds.ArraySize (parameter_place p) in
-      let unfit = breaks (is_unfit structs defined p) kinds.IncompleteType (parameter_place p) in
+      let again = breaks (is_named_here s p.name) kinds.Redeclared (parameter_at p) in
+      let bound = breaks (is_bad_bound p.array) kinds.ArraySize (parameter_at p) in
+      let unfit = breaks (is_unfit structs defined p) kinds.IncompleteType (parameter_at p) in
       let first = none_before (types ++ again) (unless_broken types (bound ++ unfit)) e in
       let later = rules_after types (bound ++ unfit) (none_before types again first) (none_behind (types ++ again) (unless_broken types (bound ++ unfit)) e) in
-      let fit = unbroken (is_unfit structs defined p) kinds.IncompleteType (parameter_place p) (none_behind bound unfit later) in
+      let fit = unbroken (is_unfit structs defined p) kinds.IncompleteType (parameter_at p) (none_behind bound unfit later) in
       let rest = or_left (is_void_base t.base || is_struct t) (defined && is_none p.name) fit in
       named_cells main p.name t s (fit_cell structs t (or_left (is_void_base t.base) (is_struct t) rest) (or_right (is_void_base t.base) (is_struct t) rest)) c
 
@@ -525,14 +525,14 @@ module _ (functions : Bytes → Option Signature) (structs : List Struct) where
       all_steps [] h = refl
       all_steps (x ∷ xs) h = and_both (is_regular (length inside.variables) x) _ h.0 (all_steps xs h.1)
 
-  regular_body : (h : Heading) (items : List (BlockItem Stmt)) → parts_rules structs true h ≡ [] → (body functions structs h items).faults ≡ [] → IfSome (body functions structs h items).found (λ f. is_regular_function f ≡ true)
+  regular_body : (h : Heading) (items : List (BlockItem Stmt)) → parts_rules structs true h ≡ [] → (body functions structs h items).breaches ≡ [] → IfSome (body functions structs h items).found (λ f. is_regular_function f ≡ true)
   regular_body h items rules e =
       let result = result_of structs h in
       let ps = parameters_of h.parameters in
       let parameters = with_parameters structs (is_main h) start ps in
       let walks = map (body_item functions structs result) items in
       let inside = walk_all walks parameters in
-      let kept = keep_all (Fine functions structs) walks (keep_each (Fine functions structs) (body_item functions structs result) (keep_body_item result) items) parameters (none_before inside.judged.faults _ e) in
+      let kept = keep_all (Fine functions structs) walks (keep_each (Fine functions structs) (body_item functions structs result) (keep_body_item result) items) parameters (none_before inside.judged.breaches _ e) in
       let types = specifier_rules structs None h.specifier in
       let cells = parameters_cells structs (is_main h) true ps start (none_behind types (parameters_rules structs (is_main h) true start ps) rules) refl in
       regular_steps h parameters inside.scope inside.judged.found (kept.cells cells) (kept.fine (length inside.scope.variables) (omega arith))
@@ -544,7 +544,7 @@ module _ (functions : Bytes → Option Signature) (structs : List Struct) where
   abbrev Regular : List Function → Type 0
   Regular fs = list_all is_regular_function fs ≡ true
 
-  regular_item : (k : ℕ) (i : Item) → (item_judged functions structs k i).faults ≡ [] → IfSome (item_judged functions structs k i).found Regular
+  regular_item : (k : ℕ) (i : Item) → (item_judged functions structs k i).breaches ≡ [] → IfSome (item_judged functions structs k i).found Regular
   regular_item k (tree_item.Include at header) e = refl
   regular_item k (tree_item.Struct at name members) e = fine_sound functions structs Regular _ [] refl
   regular_item k (tree_item.Prototype h) e = fine_sound functions structs Regular _ [] refl
@@ -554,19 +554,19 @@ module _ (functions : Bytes → Option Signature) (structs : List Struct) where
       let names = name_rules functions k true h in
       let inner = body functions structs h b.items in
       let none = none_before (parts ++ names) (unless_broken parts (type_rules functions structs h)) (none_before rules _ e) in
-      alone_regular inner.found (regular_body h b.items (none_before parts names none) (none_before inner.faults _ (none_behind rules _ e)))
+      alone_regular inner.found (regular_body h b.items (none_before parts names none) (none_before inner.breaches _ (none_behind rules _ e)))
     where
       alone_regular : (o : Option Function) → IfSome o (λ f. is_regular_function f ≡ true) → IfSome (given o (λ f. by [] (f ∷ []))).found Regular
       alone_regular None h = tt
       alone_regular (Some f) h = and_both (is_regular_function f) true h refl
 
-regular_items : (functions : Bytes → Option Signature) (structs : List Struct) (k : ℕ) (is : List Item) → (items_judged functions structs k is).faults ≡ [] → IfSome (items_judged functions structs k is).found (λ fs. list_all is_regular_function fs ≡ true)
+regular_items : (functions : Bytes → Option Signature) (structs : List Struct) (k : ℕ) (is : List Item) → (items_judged functions structs k is).breaches ≡ [] → IfSome (items_judged functions structs k is).found (λ fs. list_all is_regular_function fs ≡ true)
 regular_items functions structs k [] e = refl
 regular_items functions structs k (i ∷ is) e =
     let here = item_judged functions structs k i in
     let later = items_judged functions (with_item structs i) (next_number k i) is in
-    let none = none_before (here.faults ++ later.faults) _ e in
-    joined here.found later.found (regular_item functions structs k i (none_before here.faults later.faults none)) (regular_items functions (with_item structs i) (next_number k i) is (none_behind here.faults later.faults none))
+    let none = none_before (here.breaches ++ later.breaches) _ e in
+    joined here.found later.found (regular_item functions structs k i (none_before here.breaches later.breaches none)) (regular_items functions (with_item structs i) (next_number k i) is (none_behind here.breaches later.breaches none))
   where
     joined : (a b : Option (List Function)) → IfSome a (λ fs. list_all is_regular_function fs ≡ true) → IfSome b (λ fs. list_all is_regular_function fs ≡ true)
         → IfSome (given (both a b) (λ p. by [] (p.0 ++ p.1))).found (λ fs. list_all is_regular_function fs ≡ true)
@@ -584,7 +584,7 @@ is_regular_program tree p accepted =
     let functions = signatures first_structs 0 tree.items in
     let items = items_judged functions first_structs 0 tree.items in
     let main = main_in tree.length (number_in (functions main_name)) in
-    of_program (both items.found main.found) (paired items.found main.found (regular_items functions first_structs 0 tree.items (none_before items.faults main.faults accepted.0))) accepted.1
+    of_program (both items.found main.found) (paired items.found main.found (regular_items functions first_structs 0 tree.items (none_before items.breaches main.breaches accepted.0))) accepted.1
   where
     paired : (a : Option (List Function)) (b : Option ℕ) → IfSome a (λ fs. list_all is_regular_function fs ≡ true) → IfSome (both a b) (λ q. list_all is_regular_function q.0 ≡ true)
     paired None None h = tt

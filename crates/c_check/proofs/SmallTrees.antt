@@ -60,7 +60,7 @@ use Rattle.c_kernel.specs.declared.program.Root.TheVariants as root
 use Rattle.c_kernel.specs.declared.program.Scalar.TheVariants as scalar
 use Rattle.c_kernel.specs.declared.program.Selection.{Selection}
 use Rattle.c_kernel.specs.declared.program.BinaryOperator.{BinaryOperator}
-use Rattle.c_rules.specs.declared.fault.Fault.{Fault}
+use Rattle.c_rules.specs.declared.breach.Breach.{Breach}
 use Rattle.c_rules.specs.declared.signature.Signature.{Signature}
 use Rattle.c_rules.specs.Judged.{Judged}
 use Rattle.c_rules.specs.Rules as rules
@@ -202,21 +202,21 @@ walked_roll functions structs result x looping s = ap (λ w. w looping s) (fold-
 
 pub ruleset judging = (seen_roll, walked_roll, walked, judged)
 
-abbrev pub fault : Kind → ℕ → Fault
+abbrev pub fault : Kind → ℕ → Breach
 fault kind at = record { kind = kind; at = at }
 
 -- in a text of this length, without the word MPI_ANY_SOURCE
 abbrev pub tree : List Item → ℕ → Tree
 tree items length = record { items = items; length = length; any_source = false }
 
-abbrev pub broken : List Item → ℕ → List Fault
-broken items length = (judged_tree (tree items length)).faults
+abbrev pub broken : List Item → ℕ → List Breach
+broken items length = (judged_tree (tree items length)).breaches
 
 abbrev pub whole : List Item → ℕ → Judged Program
 whole items length = seen_as (checked.program_of (tree items length)) (judged_tree (tree items length))
 
 abbrev pub accepted : Program → Judged Program
-accepted p = record { faults = []; found = Some p }
+accepted p = record { breaches = []; found = Some p }
 
 -- ---- typed forms
 

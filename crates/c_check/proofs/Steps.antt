@@ -32,23 +32,23 @@ led_same r before now v w e h = subst (λ u. IfOk r (λ found. Leads before now 
 pub led_staying : {A E : Type 0} (r : Result (Option A) E) (before : Walker) (now : Judge) (j : Judged A)
     → IfOk r (λ found. Tells before.judge now found j)
     → IfOk r (λ found. Leads before (record { judge = now; scope = before.scope }) found (staying j (scope_of before.scope)))
-led_staying r before now j h = IfOk-weaker r _ _ (λ found t. record { found = t.found; faults = t.faults; scope = refl; around = refl }) h
+led_staying r before now j h = IfOk-weaker r _ _ (λ found t. record { found = t.found; breaches = t.breaches; scope = refl; around = refl }) h
 
 -- ---- one part, and then the rest that goes on from it
 
 pub told_then : {A B : Type 0} (before mid now : Judge) (part : Judged A) (a : Option A) (rest : Option A → Judged B) (found : Option B)
-    → Tells before mid a part → Tells mid now found (rest a) → Tells before now found (after part.faults (rest part.found))
+    → Tells before mid a part → Tells mid now found (rest a) → Tells before now found (after part.breaches (rest part.found))
 told_then before mid now part a rest found h k = record {
   found = k.found ∙ ap (λ o. (rest o).found) h.found;
-  faults =
-      k.faults
-      ∙ ap (λ o. mid.breaches.items ++ (rest o).faults) h.found
-      ∙ ap (λ fs. fs ++ (rest part.found).faults) h.faults
-      ∙ append_assoc before.breaches.items part.faults (rest part.found).faults;
+  breaches =
+      k.breaches
+      ∙ ap (λ o. mid.breaches.items ++ (rest o).breaches) h.found
+      ∙ ap (λ fs. fs ++ (rest part.found).breaches) h.breaches
+      ∙ append_assoc before.breaches.items part.breaches (rest part.found).breaches;
 }
 
 pub told_after : {A B E : Type 0} (r : Result (Option B) E) (before mid now : Judge) (part : Judged A) (a : Option A) (rest : Option A → Judged B)
-    → Tells before mid a part → IfOk r (λ found. Tells mid now found (rest a)) → IfOk r (λ found. Tells before now found (after part.faults (rest part.found)))
+    → Tells before mid a part → IfOk r (λ found. Tells mid now found (rest a)) → IfOk r (λ found. Tells before now found (after part.breaches (rest part.found)))
 told_after r before mid now part a rest h k = IfOk-weaker r _ _ (λ found t. told_then before mid now part a rest found h t) k
 
 -- three parts in order, and then their choice
@@ -62,9 +62,9 @@ told_choice r before first second third now c a b c' a' b' of_c of_a of_b h =
           ∙ ap (λ x. (choice_of x a' b').found) of_c.found
           ∙ ap (λ x. (choice_of c.found x b').found) of_a.found
           ∙ ap (λ x. (choice_of c.found a.found x).found) of_b.found;
-      faults =
+      breaches =
           choice_noted c a b c' a' b' before.breaches.items first.breaches.items second.breaches.items third.breaches.items now.breaches.items
-          of_c.found of_a.found of_b.found of_c.faults of_a.faults of_b.faults t.faults;
+          of_c.found of_a.found of_b.found of_c.breaches of_a.breaches of_b.breaches t.breaches;
     }) h
 
 -- ---- loops
@@ -73,7 +73,7 @@ told_choice r before first second third now c a b c' a' b' of_c of_a of_b h =
 abbrev pub Goes : {A : Type 0} → Judge → Judge → Option (List A) → Judged (List A) → Judged (List A) → Type 0
 Goes before now found rest whole = record {
   found : joined found rest.found ≡ whole.found;
-  faults : now.breaches.items ++ rest.faults ≡ before.breaches.items ++ whole.faults;
+  breaches : now.breaches.items ++ rest.breaches ≡ before.breaches.items ++ whole.breaches;
 }
 
 -- and the names in scope are those that the rest begins with
@@ -83,7 +83,7 @@ Leaves before now found rest whole =
     let all = whole (scope_of before.scope) in
     record {
       found : joined found last.judged.found ≡ all.judged.found;
-      faults : now.judge.breaches.items ++ last.judged.faults ≡ before.judge.breaches.items ++ all.judged.faults;
+      breaches : now.judge.breaches.items ++ last.judged.breaches ≡ before.judge.breaches.items ++ all.judged.breaches;
       scope : last.scope ≡ all.scope;
       around : (scope_of now.scope).around ≡ (scope_of before.scope).around;
     }
@@ -100,7 +100,7 @@ led_scoped j k outside entered inside left w found e h out =
     let back = out before (h.around ∙ ap (λ (s : Scope). s.around) e) in
     record {
       found = h.found ∙ ap (λ (s : Scope). (w s).judged.found) e;
-      faults = h.faults ∙ ap (λ (s : Scope). j.breaches.items ++ (w s).judged.faults) e;
+      breaches = h.breaches ∙ ap (λ (s : Scope). j.breaches.items ++ (w s).judged.breaches) e;
       scope = back ∙ ap (λ (s : Scope). leave before s) (h.scope ∙ ap (λ (s : Scope). (w s).scope) e);
       around = ap (λ (s : Scope). s.around) back;
     }
@@ -129,10 +129,10 @@ led_for r before first now second third head test step body i c n x of_head of_t
           ∙ ap (λ o. option_map for_of (both (both head.judged.found o) (both n x))) of_test.found
           ∙ ap (λ o. option_map for_of (both (both head.judged.found (test s).found) (both o x))) of_step.found
           ∙ ap (λ o. option_map for_of (both (both head.judged.found (test s).found) (both (step s).found o))) of_body.found;
-      faults =
-          noted before.judge.breaches.items head.judged.faults (test s).faults (step s).faults (body s).judged.faults
+      breaches =
+          noted before.judge.breaches.items head.judged.breaches (test s).breaches (step s).breaches (body s).judged.breaches
           first.judge.breaches.items second.breaches.items third.breaches.items now.judge.breaches.items
-          of_head.faults of_test.faults of_step.faults of_body.faults;
+          of_head.breaches of_test.breaches of_step.breaches of_body.breaches;
       scope = of_body.scope;
       around = of_body.around ∙ of_head.around;
     }) h)

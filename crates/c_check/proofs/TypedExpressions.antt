@@ -60,7 +60,7 @@ told_constant at word.ProcNull = λ e. refl
 
 told_addressed : (at operand : ℕ) (f : Form) → IsTold (rules.addressed at operand f)
 told_addressed at operand (form.Zero kind) = told_refused _
-told_addressed at operand (form.Value kind e) = told_refused _
+told_addressed at operand (form.Value c_type e) = told_refused _
 told_addressed at operand (form.Place kind p) = told_by _ _
 
 module _ (structs : List Struct) where
@@ -76,8 +76,8 @@ module _ (structs : List Struct) where
 
   told_prefix : (at : ℕ) (o : Operator) (a : Judged Found) → IsTold a → IsTold (whole_prefix structs at o a)
   told_prefix at o a h e =
-      let rest = (rules.prefix structs at o a.found).faults in
-      told_operator at o a.found (h (none_before a.faults rest e)) (none_behind a.faults rest e)
+      let rest = (rules.prefix structs at o a.found).breaches in
+      told_operator at o a.found (h (none_before a.breaches rest e)) (none_behind a.breaches rest e)
 
   told_named_type : (t : TypeName) → IsTold (named_type structs t)
   told_named_type t = told_by _ _
@@ -116,7 +116,7 @@ module _ (structs : List Struct) where
 
   told_arrow : (a : Found) (n : MemberName) → IsTold (rules.arrow structs a n)
   unfolding rules.arrow
-  told_arrow a n = told_part (by (rules.arrow_rules a) (rules.target_place a)) _ (told_by _ _) (λ p. told_selected a.at (target (rules.kind_of a)) p n)
+  told_arrow a n = told_part (by (rules.arrow_rules a) (rules.target_place a)) _ (told_by _ _) (λ p. told_selected a.at (target (rules.c_type_of a)) p n)
 
   told_member : (how : Access) (a : Found) (n : MemberName) → IsTold (rules.member structs how a n)
   told_member access.Dot a n = told_dot a n
@@ -139,17 +139,17 @@ module _ (structs : List Struct) where
   told_chain a [] h all e = h
   told_chain a (l ∷ ls) h all e =
       let here = walk.next structs l.operator a l.operand.found in
-      let rest = (chain structs here.found ls).faults in
-      let none = none_before (l.operand.faults ++ here.faults) rest e in
-      let operand = all.0 (none_before l.operand.faults here.faults none) in
-      let link = told_given (both a l.operand.found) _ (both_some a l.operand.found h operand) (λ p. told_link structs l.operator p.0 p.1) (none_behind l.operand.faults here.faults none) in
-      told_chain here.found ls link all.1 (none_behind (l.operand.faults ++ here.faults) rest e)
+      let rest = (chain structs here.found ls).breaches in
+      let none = none_before (l.operand.breaches ++ here.breaches) rest e in
+      let operand = all.0 (none_before l.operand.breaches here.breaches none) in
+      let link = told_given (both a l.operand.found) _ (both_some a l.operand.found h operand) (λ p. told_link structs l.operator p.0 p.1) (none_behind l.operand.breaches here.breaches none) in
+      told_chain here.found ls link all.1 (none_behind (l.operand.breaches ++ here.breaches) rest e)
 
   told_whole_chain : (a : Judged Found) (ls : List (Link (Judged Found))) → IsTold a → AreToldOperands ls → IsTold (whole_chain structs a ls)
   told_whole_chain a ls h all e =
       let first = option_map rules.begin a.found in
       let run = chain structs first ls in
-      map_some _ run.found (told_chain first ls (map_some rules.begin a.found (h (none_before a.faults run.faults e))) all (none_behind a.faults run.faults e))
+      map_some _ run.found (told_chain first ls (map_some rules.begin a.found (h (none_before a.breaches run.breaches e))) all (none_behind a.breaches run.breaches e))
 
 told_choice : (c a b : Found) → IsTold (rules.choice c a b)
 unfolding rules.choice
@@ -157,14 +157,14 @@ told_choice c a b = told_by _ _
 
 told_whole_choice : (c a b : Judged Found) → IsTold c → IsTold a → IsTold b → IsTold (whole_choice c a b)
 told_whole_choice c a b h k m e =
-    let rest = (walk.choice_of c.found a.found b.found).faults in
-    let none = none_before (c.faults ++ a.faults ++ b.faults) rest e in
-    let front = none_before (c.faults ++ a.faults) b.faults none in
+    let rest = (walk.choice_of c.found a.found b.found).breaches in
+    let none = none_before (c.breaches ++ a.breaches ++ b.breaches) rest e in
+    let front = none_before (c.breaches ++ a.breaches) b.breaches none in
     told_given (both c.found (both a.found b.found)) _
-    (both_some c.found (both a.found b.found) (h (none_before c.faults a.faults front))
-    (both_some a.found b.found (k (none_behind c.faults a.faults front)) (m (none_behind (c.faults ++ a.faults) b.faults none))))
+    (both_some c.found (both a.found b.found) (h (none_before c.breaches a.breaches front))
+    (both_some a.found b.found (k (none_behind c.breaches a.breaches front)) (m (none_behind (c.breaches ++ a.breaches) b.breaches none))))
     (λ p. told_choice p.0 p.1.0 p.1.1)
-    (none_behind (c.faults ++ a.faults ++ b.faults) rest e)
+    (none_behind (c.breaches ++ a.breaches ++ b.breaches) rest e)
 
 -- ---- expressions, as parts, as calls and as mallocs
 

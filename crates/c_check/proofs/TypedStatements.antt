@@ -141,8 +141,8 @@ module _ (functions : Bytes → Option Signature) (structs : List Struct) (sound
 
   told_variable : (t : TypeSpecifier) (d : InitDeclarator) → IsToldWalk (walk.variable_walk functions structs t d)
   told_variable t d s =
-      let kind = type_of structs None t d.stars in
-      told_after (walk.variable_rules structs s kind d) _ (told_initial (declare s d.name.bytes (object_type structs kind (walk.sizes_of d))) _ d.value (length s.variables))
+      let c_type = type_of structs None t d.stars in
+      told_after (walk.variable_rules structs s c_type d) _ (told_initial (declare s d.name.bytes (object_type structs c_type (walk.sizes_of d))) _ d.value (length s.variables))
 
   pub told_declaration : (d : Declaration) → IsToldWalk (walk.declaration functions structs d)
   told_declaration d s =

@@ -12,7 +12,7 @@ use Rattle.c_tree.specs.declared.tree.Stmt.{Stmt}
 use Rattle.c_tree.specs.declared.tree.Tree.{Tree}
 use Rattle.c_kernel.specs.declared.types.CType.{CType}
 use Rattle.c_kernel.specs.declared.types.Struct.{Struct}
-use Rattle.c_rules.specs.declared.fault.Fault.{Fault}
+use Rattle.c_rules.specs.declared.breach.Breach.{Breach}
 use Rattle.c_rules.specs.declared.signature.Signature.{Signature}
 use Rattle.c_rules.specs.Judged.{breaks, unless_broken}
 use Rattle.c_rules.specs.Rules.{main_name}
@@ -33,12 +33,12 @@ sound_first None b h k = k
 sound_first (Some f) None h k = h
 sound_first (Some f) (Some g) h k = h
 
-none_long : (fs : List Fault) (b : Bool) (at : ℕ) → fs ≡ [] → breaks b kind.IncompleteType at ≡ [] → ((length fs == 0) && not b) ≡ true
+none_long : (fs : List Breach) (b : Bool) (at : ℕ) → fs ≡ [] → breaks b kind.IncompleteType at ≡ [] → ((length fs == 0) && not b) ≡ true
 none_long [] true at e h = absurd (not_none _ _ h)
 none_long [] false at e h = refl
 none_long (f ∷ fs) b at e h = absurd (not_none f fs e)
 
-unless_none : (fs gs : List Fault) → fs ≡ [] → unless_broken fs gs ≡ [] → gs ≡ []
+unless_none : (fs gs : List Breach) → fs ≡ [] → unless_broken fs gs ≡ [] → gs ≡ []
 unless_none [] gs e h = h
 unless_none (f ∷ fs) gs e h = absurd (not_none f fs e)
 
@@ -58,17 +58,17 @@ module _ (functions : Bytes → Option Signature) where
       of_name true = sound_heading structs k defined h e
       of_name false = tt
 
-  sound_item : (structs : List Struct) (k : ℕ) (i : Item) (name : Bytes) → (item_judged functions structs k i).faults ≡ [] → IsSound (said_by structs k (is_definition i) (heading_in i) name)
+  sound_item : (structs : List Struct) (k : ℕ) (i : Item) (name : Bytes) → (item_judged functions structs k i).breaches ≡ [] → IsSound (said_by structs k (is_definition i) (heading_in i) name)
   sound_item structs k (item.Include at header) name e = tt
   sound_item structs k (item.Struct at n members) name e = tt
   sound_item structs k (item.Prototype h) name e = sound_said structs k false h name e
   sound_item structs k (item.Function h b) name e = sound_said structs k true h name (none_before (heading_rules functions structs k true h) _ e)
 
-  sound_items : (structs : List Struct) (k : ℕ) (is : List Item) → (items_judged functions structs k is).faults ≡ [] → AreSound (signatures structs k is)
+  sound_items : (structs : List Struct) (k : ℕ) (is : List Item) → (items_judged functions structs k is).breaches ≡ [] → AreSound (signatures structs k is)
   sound_items structs k [] e name = tt
   sound_items structs k (i ∷ is) e name =
-      let here = (item_judged functions structs k i).faults in
-      let later = (items_judged functions (with_item structs i) (next_number k i) is).faults in
+      let here = (item_judged functions structs k i).breaches in
+      let later = (items_judged functions (with_item structs i) (next_number k i) is).breaches in
       let none = none_before (here ++ later) _ e in
       sound_first _ (signatures (with_item structs i) (next_number k i) is name) (sound_item structs k i name (none_before here later none)) (sound_items (with_item structs i) (next_number k i) is (none_behind here later none) name)
 
@@ -103,8 +103,8 @@ told_tree tree e =
     let functions = signatures first_structs 0 tree.items in
     let items = items_judged functions first_structs 0 tree.items in
     let main = main_in tree.length (number_in (functions main_name)) in
-    let sound = sound_items functions first_structs 0 tree.items (none_before items.faults main.faults e) in
+    let sound = sound_items functions first_structs 0 tree.items (none_before items.breaches main.breaches e) in
     told_pair items main (told_items functions sound first_structs 0 tree.items) (told_main tree.length (number_in (functions main_name))) e
 
-pub typed_form : (tree : Tree) → (judged_tree tree).faults ≡ [] → is_some (option_map (program_of tree) (judged_tree tree).found) ≡ true
+pub typed_form : (tree : Tree) → (judged_tree tree).breaches ≡ [] → is_some (option_map (program_of tree) (judged_tree tree).found) ≡ true
 typed_form tree e = map_some (program_of tree) (judged_tree tree).found (told_tree tree e)

@@ -44,23 +44,23 @@ module _ (structs : List Struct) where
 
   -- a chain goes on from the left
   abbrev pub chain : Option Run → List (Link (Judged Found)) → Judged Run
-  chain a [] = record { faults = []; found = a }
+  chain a [] = record { breaches = []; found = a }
   chain a (l ∷ ls) =
       let here = next l.operator a l.operand.found in
-      after (l.operand.faults ++ here.faults) (chain here.found ls)
+      after (l.operand.breaches ++ here.breaches) (chain here.found ls)
 
 -- and ends
 abbrev pub ended : Option Run → Option Found
-ended a = option_map (λ run. rules.plain run.at run.kind (rules.closed run)) a
+ended a = option_map (λ run. rules.plain run.at run.c_type (rules.closed run)) a
 
 module _ (structs : List Struct) where
   abbrev pub whole_chain : Judged Found → List (Link (Judged Found)) → Judged Found
   whole_chain a ls =
       let run = chain structs (option_map rules.begin a.found) ls in
-      record { faults = a.faults ++ run.faults; found = ended run.found }
+      record { breaches = a.breaches ++ run.breaches; found = ended run.found }
 
   abbrev pub whole_prefix : ℕ → Operator → Judged Found → Judged Found
-  whole_prefix at o a = after a.faults (rules.prefix structs at o a.found)
+  whole_prefix at o a = after a.breaches (rules.prefix structs at o a.found)
 
   abbrev pub whole_index : Judged Found → Judged Found → Judged Found
   whole_index a i = of_parts a i (rules.index structs)
@@ -72,7 +72,7 @@ abbrev pub choice_of : Option Found → Option Found → Option Found → Judged
 choice_of c a b = given (both c (both a b)) (λ p. rules.choice p.0 p.1.0 p.1.1)
 
 abbrev pub whole_choice : Judged Found → Judged Found → Judged Found → Judged Found
-whole_choice c a b = after (c.faults ++ a.faults ++ b.faults) (choice_of c.found a.found b.found)
+whole_choice c a b = after (c.breaches ++ a.breaches ++ b.breaches) (choice_of c.found a.found b.found)
 
 abbrev pub whole_cast : ℕ → Judged CType → Judged Found → Judged Found
 whole_cast at t a = of_parts t a (rules.cast at)
@@ -110,7 +110,7 @@ cast_before None at t = None
 cast_before (Some m) at t = with_cast at t m
 
 abbrev pub cast_of : ℕ × Judged CType → Judged Cast
-cast_of c = as_part (λ kind. record { at = c.0; kind = kind }) c.1
+cast_of c = as_part (λ c_type. record { at = c.0; c_type = c_type }) c.1
 
 -- its parts: the cast and the bytes
 abbrev pub allocation : Allocated → Judged Allocation
@@ -232,10 +232,10 @@ module _ (functions : Bytes → Option Signature) (structs : List Struct) (s : S
   seen_suffix (suffix.Member at how n) = suffix.Member at how n
 
   abbrev pub judged_suffix : Option Found → Suffix Expr → Judged Found
-  judged_suffix a x = suffix_of (record { faults = []; found = a }) (seen_suffix x)
+  judged_suffix a x = suffix_of (record { breaches = []; found = a }) (seen_suffix x)
 
   abbrev pub judged_suffixes : Option Found → List (Suffix Expr) → Judged Found
-  judged_suffixes a xs = suffixed (record { faults = []; found = a }) (map seen_suffix xs)
+  judged_suffixes a xs = suffixed (record { breaches = []; found = a }) (map seen_suffix xs)
 
   -- several, a chain's operands, a call and a malloc
   abbrev pub judged_all : List Expr → List (Judged Found)

@@ -16,11 +16,11 @@ use Rattle.c_tree.specs.declared.tree.PlainType.TheVariants as word
 use Rattle.c_tree.specs.declared.kind.Kind.TheVariants.{Redeclared, BadMain, ArraySize, IncompleteType, PrototypeDiffers}
 use Rattle.c_kernel.specs.declared.types.CType.{CType}
 use Rattle.c_kernel.specs.declared.types.Struct.{Struct}
-use Rattle.c_rules.specs.declared.fault.Fault.{Fault}
+use Rattle.c_rules.specs.declared.breach.Breach.{Breach}
 use Rattle.c_rules.specs.declared.signature.Signature.{Signature}
 use Rattle.c_rules.specs.Judged.{breaks, unless_broken}
 use Rattle.c_rules.specs.Scope.{Bytes, Scope, is_here, declare, hide, start}
-use Rattle.c_rules.specs.Types.{type_of, specifier_rules, place_of, is_void_base, is_struct, is_null, pointer_to, same_type, same_types, is_array_size, one_object}
+use Rattle.c_rules.specs.Types.{type_of, specifier_rules, specifier_at, is_void_base, is_struct, is_null, pointer_to, same_type, same_types, is_array_size, one_object}
 use Rattle.c_rules.specs.Rules.{main_name}
 use Rattle.c_check.specs.Structs.{with_item}
 
@@ -78,8 +78,8 @@ is_mains h = is_word h.specifier word.Int && nat_eq h.stars 0 && are_mains (para
 -- ---- the rules of a header by itself
 
 -- a parameter's name, or its type where it has none
-abbrev pub parameter_place : Parameter → ℕ
-parameter_place p = elim p.name [ None ↦ place_of p.specifier | Some n ↦ n.at ]
+abbrev pub parameter_at : Parameter → ℕ
+parameter_at p = elim p.name [ None ↦ specifier_at p.specifier | Some n ↦ n.at ]
 
 abbrev pub is_bad_bound : Option Bound → Bool
 is_bad_bound None = false
@@ -97,22 +97,22 @@ abbrev pub is_named_here : Scope → Option Name → Bool
 is_named_here s None = false
 is_named_here s (Some n) = is_here s n.bytes
 
-abbrev pub parameter_rules : List Struct → Bool → Scope → Parameter → List Fault
+abbrev pub parameter_rules : List Struct → Bool → Scope → Parameter → List Breach
 parameter_rules structs defined s p =
     specifier_rules structs None p.specifier
-    ++ breaks (is_named_here s p.name) Redeclared (parameter_place p)
-    ++ unless_broken (specifier_rules structs None p.specifier) (breaks (is_bad_bound p.array) ArraySize (parameter_place p) ++ breaks (is_unfit structs defined p) IncompleteType (parameter_place p))
+    ++ breaks (is_named_here s p.name) Redeclared (parameter_at p)
+    ++ unless_broken (specifier_rules structs None p.specifier) (breaks (is_bad_bound p.array) ArraySize (parameter_at p) ++ breaks (is_unfit structs defined p) IncompleteType (parameter_at p))
 
 -- a parameter comes into scope; those of main are no variables
 abbrev pub with_name : List Struct → Bool → Option Name → CType → Scope → Scope
-with_name structs main None kind s = s
-with_name structs true (Some n) kind s = hide s n.bytes
-with_name structs false (Some n) kind s = declare s n.bytes (one_object structs kind)
+with_name structs main None c_type s = s
+with_name structs true (Some n) c_type s = hide s n.bytes
+with_name structs false (Some n) c_type s = declare s n.bytes (one_object structs c_type)
 
 abbrev pub with_parameter : List Struct → Bool → Parameter → Scope → Scope
 with_parameter structs main p s = with_name structs main p.name (parameter_type structs p) s
 
-abbrev pub parameters_rules : List Struct → Bool → Bool → Scope → List Parameter → List Fault
+abbrev pub parameters_rules : List Struct → Bool → Bool → Scope → List Parameter → List Breach
 parameters_rules structs main defined s [] = []
 parameters_rules structs main defined s (p ∷ ps) = parameter_rules structs defined s p ++ parameters_rules structs main defined (with_parameter structs main p s) ps
 
@@ -121,7 +121,7 @@ with_parameters structs main s [] = s
 with_parameters structs main s (p ∷ ps) = with_parameters structs main (with_parameter structs main p s) ps
 
 -- its parts: the result's specifier and the parameters
-abbrev pub parts_rules : List Struct → Bool → Heading → List Fault
+abbrev pub parts_rules : List Struct → Bool → Heading → List Breach
 parts_rules structs defined h =
     specifier_rules structs None h.specifier
     ++ parameters_rules structs (is_main h) defined start (parameters_of h.parameters)
@@ -193,20 +193,20 @@ is_second k defined None = false
 is_second k defined (Some first) = defined && not (nat_eq first k)
 
 -- its name
-abbrev pub name_rules : (Bytes → Option Signature) → ℕ → Bool → Heading → List Fault
+abbrev pub name_rules : (Bytes → Option Signature) → ℕ → Bool → Heading → List Breach
 name_rules functions k defined h =
     breaks (is_second k defined (number_in (functions h.name.bytes))) Redeclared h.name.at
     ++ breaks (is_main h && not (defined && is_mains h)) BadMain h.name.at
 
 module _ (functions : Bytes → Option Signature) (structs : List Struct) where
   -- its types as a whole
-  abbrev pub type_rules : Heading → List Fault
+  abbrev pub type_rules : Heading → List Breach
   type_rules h =
       breaks (is_bad_result (result_of structs h)) IncompleteType h.name.at
       ++ breaks (differs structs h (functions h.name.bytes)) PrototypeDiffers h.name.at
 
   -- the header of an item, which is the k-th definition or stands before it
-  abbrev pub heading_rules : ℕ → Bool → Heading → List Fault
+  abbrev pub heading_rules : ℕ → Bool → Heading → List Breach
   heading_rules k defined h =
       parts_rules structs defined h
       ++ name_rules functions k defined h

@@ -15,7 +15,7 @@ use Rattle.c_kernel.specs.declared.program.MpiFunction.{MpiFunction}
 use Rattle.c_kernel.specs.declared.program.MpiFunction.TheVariants as function
 use Rattle.c_kernel.specs.declared.program.Stmt.{Stmt as Typed}
 use Rattle.c_kernel.specs.declared.program.Stmt.TheVariants as typed
-use Rattle.c_rules.specs.declared.fault.Fault.{Fault}
+use Rattle.c_rules.specs.declared.breach.Breach.{Breach}
 use Rattle.c_rules.specs.declared.found.Found.{Found}
 use Rattle.c_rules.specs.declared.scope.Entity.{Entity}
 use Rattle.c_rules.specs.declared.scope.Entity.TheVariants.{Variable, Parameter}
@@ -69,26 +69,26 @@ is_parameter k None = false
 is_parameter k (Some (Variable v)) = false
 is_parameter k (Some (Parameter n)) = nat_eq n k
 
-abbrev pub name_rules : Scope → ℕ → Name → List Fault
+abbrev pub name_rules : Scope → ℕ → Name → List Breach
 name_rules s k name = breaks (not (is_parameter k (visible s name.bytes))) BadMain name.at
 
-abbrev pub init_rules : Scope → Option (Name × Name) → List Fault
+abbrev pub init_rules : Scope → Option (Name × Name) → List Breach
 init_rules s None = []
 init_rules s (Some names) = name_rules s 0 names.0 ++ name_rules s 1 names.1
 
-abbrev pub status_rules : Status → List Fault
+abbrev pub status_rules : Status → List Breach
 status_rules (status.Ignore at) = breaks true Datatype at
 status_rules (status.Given e) = []
 
-abbrev pub word_rules : Scope → MpiCall → List Fault
+abbrev pub word_rules : Scope → MpiCall → List Breach
 word_rules s (mpi.Init at names) = init_rules s names
 word_rules s (mpi.GetCount at st kind p) = status_rules st
 word_rules s _ = []
 
 -- ---- the call, by what its arguments are found to be
 
-abbrev pub call_rules : List Fault → MpiFunction → List Found → List Fault
+abbrev pub call_rules : List Breach → MpiFunction → List Found → List Breach
 call_rules words f vs = words ++ unless_broken words (roles_rules (roles_of f) vs)
 
-unfoldable pub called : List Fault → List Bytes → MpiFunction → List Found → Judged Typed
+unfoldable pub called : List Breach → List Bytes → MpiFunction → List Found → Judged Typed
 called words names f vs = by (call_rules words f vs) (typed.Mpi (record { function = f; names = names; arguments = roles_values (roles_of f) vs }))

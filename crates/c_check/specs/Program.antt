@@ -15,7 +15,7 @@ use Rattle.c_kernel.specs.declared.program.Program.{Program}
 use Rattle.c_kernel.specs.declared.program.Function.{Function}
 use Rattle.c_kernel.specs.declared.program.Stmt.{Stmt as Typed}
 use Rattle.c_kernel.specs.declared.program.Stmt.TheVariants.{Actions}
-use Rattle.c_rules.specs.declared.fault.Fault.{Fault}
+use Rattle.c_rules.specs.declared.breach.Breach.{Breach}
 use Rattle.c_rules.specs.declared.signature.Signature.{Signature}
 use Rattle.c_rules.specs.Judged.{Judged, by, refused, after, of_parts, as_part, pair_of}
 use Rattle.c_rules.specs.Scope.{Bytes, Scope, start}
@@ -76,64 +76,64 @@ judged_tree tree =
 abbrev pub program_of : Tree → List Function × ℕ → Program
 program_of tree parts = record { structs = all_structs first_structs tree.items; functions = parts.0; main = parts.1; any_source = tree.any_source }
 
--- ---- the first fault
+-- ---- the first breach
 
--- the place of a rule in the table; what isn't built yet goes first
-abbrev pub rank : Kind → ℕ
-rank kind.NotYet = 0
-rank kind.TextLimit = 1
-rank kind.Syntax = 2
-rank kind.TooDeep = 3
-rank kind.NumberRange = 4
-rank kind.UnknownName = 5
-rank kind.Redeclared = 6
-rank kind.NoMain = 7
-rank kind.BadMain = 8
-rank kind.NotScalar = 9
-rank kind.NotInteger = 10
-rank kind.NotPointer = 11
-rank kind.NotStruct = 12
-rank kind.NotPlace = 13
-rank kind.TypeMismatch = 14
-rank kind.ArgumentCount = 15
-rank kind.CallPlace = 16
-rank kind.MallocPlace = 17
-rank kind.ReturnValue = 18
-rank kind.LoopWord = 19
-rank kind.ArraySize = 20
-rank kind.IncompleteType = 21
-rank kind.PrototypeDiffers = 22
-rank kind.Undefined = 23
-rank kind.FormatMismatch = 24
-rank kind.Datatype = 25
+-- the number of a rule in the table; what isn't built yet goes first
+abbrev pub precedence : Kind → ℕ
+precedence kind.NotYet = 0
+precedence kind.TextLimit = 1
+precedence kind.Syntax = 2
+precedence kind.TooDeep = 3
+precedence kind.NumberRange = 4
+precedence kind.UnknownName = 5
+precedence kind.Redeclared = 6
+precedence kind.NoMain = 7
+precedence kind.BadMain = 8
+precedence kind.NotScalar = 9
+precedence kind.NotInteger = 10
+precedence kind.NotPointer = 11
+precedence kind.NotStruct = 12
+precedence kind.NotPlace = 13
+precedence kind.TypeMismatch = 14
+precedence kind.ArgumentCount = 15
+precedence kind.CallPlace = 16
+precedence kind.MallocPlace = 17
+precedence kind.ReturnValue = 18
+precedence kind.LoopWord = 19
+precedence kind.ArraySize = 20
+precedence kind.IncompleteType = 21
+precedence kind.PrototypeDiffers = 22
+precedence kind.Undefined = 23
+precedence kind.FormatMismatch = 24
+precedence kind.Datatype = 25
 
-abbrev pub precedes : Fault → Fault → Bool
-precedes f g = nat_lt f.at g.at || ((f.at == g.at) && nat_lt (rank f.kind) (rank g.kind))
+abbrev pub precedes : Breach → Breach → Bool
+precedes f g = nat_lt f.at g.at || ((f.at == g.at) && nat_lt (precedence f.kind) (precedence g.kind))
 
-abbrev pub sooner : Option Fault → Fault → Option Fault
+abbrev pub sooner : Option Breach → Breach → Option Breach
 sooner None g = Some g
 sooner (Some f) g = Some (if precedes g f then g else f)
 
--- of the broken rules the one at the lowest place, and there the first of the table
-abbrev pub first : List Fault → Option Fault
-first faults = fold sooner None faults
+-- of the broken rules the one at the lowest offset, and there the first of the table
+abbrev pub first : List Breach → Option Breach
+first breaches = fold sooner None breaches
 
 -- it is one of them, and none precedes it
-abbrev pub Among : List Fault → Fault → Type 0
+abbrev pub Among : List Breach → Breach → Type 0
 Among [] f = ⊥
 Among (g ∷ gs) f = (f ≡ g) ⊎ Among gs f
 
-abbrev pub NonePrecedes : List Fault → Fault → Type 0
+abbrev pub NonePrecedes : List Breach → Breach → Type 0
 NonePrecedes [] f = Unit {0}
 NonePrecedes (g ∷ gs) f = (precedes g f ≡ false) × NonePrecedes gs f
 
-abbrev pub IsLeast : List Fault → Fault → Type 0
-IsLeast faults f = Among faults f × NonePrecedes faults f
+abbrev pub IsLeast : List Breach → Breach → Type 0
+IsLeast breaches f = Among breaches f × NonePrecedes breaches f
 
 -- a tree that breaks no rule, with its typed program
 abbrev pub Accepts : Tree → Program → Type 0
-Accepts tree program = ((judged_tree tree).faults ≡ []) × (option_map (program_of tree) (judged_tree tree).found ≡ Some program)
+Accepts tree program = ((judged_tree tree).breaches ≡ []) × (option_map (program_of tree) (judged_tree tree).found ≡ Some program)
 
 -- a tree that breaks one
-abbrev pub Refuses : Tree → Fault → Type 0
-Refuses tree fault = IsLeast (judged_tree tree).faults fault
+abbrev pub Refuses : Tree → Breach → Type 0
+Refuses tree breach = IsLeast (judged_tree tree).breaches breach

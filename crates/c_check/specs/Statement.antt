@@ -34,7 +34,7 @@ use Rattle.c_kernel.specs.declared.program.Action.{Action}
 use Rattle.c_kernel.specs.declared.program.Action.TheVariants as action
 use Rattle.c_kernel.specs.declared.program.Piece.{Piece}
 use Rattle.c_kernel.specs.declared.program.Expr.{Expr as Term}
-use Rattle.c_rules.specs.declared.fault.Fault.{Fault}
+use Rattle.c_rules.specs.declared.breach.Breach.{Breach}
 use Rattle.c_kernel.specs.declared.program.Place.{Place}
 use Rattle.c_kernel.specs.Extent.{extent}
 use Rattle.c_rules.specs.declared.found.Found.{Found}
@@ -50,7 +50,7 @@ use Rattle.c_rules.specs.declared.signature.Signature.{Signature}
 use Rattle.c_rules.specs.Judged.{Judged, breaks, by, refused, after, of_part, of_parts, pair_of, more, together, perhaps}
 use Rattle.c_rules.specs.Scope.{Bytes, Scope, is_here, declare, enter, leave}
 use Rattle.c_rules.specs.Types.{type_of, specifier_rules, is_void, is_pointer, is_struct, is_target, is_incomplete, scalar_of, target, same_type, is_array, object_type, is_too_large}
-use Rattle.c_rules.specs.Rules.{kind_of, plain, place, variable, value, value_as, scalar_rules, number_rules, value_rules, clash, constant, begin, closed, link}
+use Rattle.c_rules.specs.Rules.{c_type_of, plain, place, variable, value, value_as, scalar_rules, number_rules, value_rules, clash, constant, begin, closed, link}
 use Rattle.c_check.specs.Expression.{Seen, Allocated, seen, judged, judged_all, right, invoked, allocation}
 use Rattle.c_rules.specs.Format.{pieces, fit}
 use Rattle.c_check.specs.Mpi as mpi
@@ -60,32 +60,32 @@ use Rattle.c_check.specs.Mpi as mpi
 -- what stands left of = is a place, and no array or struct
 abbrev pub is_assignable : Form → Bool
 is_assignable (form.Zero kind) = false
-is_assignable (form.Value kind e) = false
+is_assignable (form.Value c_type e) = false
 is_assignable (form.Place kind p) = not (is_array kind || is_struct kind.element)
 
-abbrev pub place_rules : Found → List Fault
+abbrev pub place_rules : Found → List Breach
 place_rules a = breaks (not (is_assignable a.form)) NotPlace a.at
 
 abbrev pub place_in : Form → Place Term
 place_in (form.Zero kind) = variable 0
-place_in (form.Value kind e) = variable 0
+place_in (form.Value c_type e) = variable 0
 place_in (form.Place kind p) = p
 
 -- a malloc for a pointer of the type (7.20.3.3); a cast before it is to this type
-abbrev pub cast_rules : CType → Option Cast → List Fault
+abbrev pub cast_rules : CType → Option Cast → List Breach
 cast_rules t None = []
-cast_rules t (Some c) = breaks (not (same_type c.kind t)) TypeMismatch c.at
+cast_rules t (Some c) = breaks (not (same_type c.c_type t)) TypeMismatch c.at
 
-abbrev pub memory_rules : CType → Allocation → List Fault
+abbrev pub memory_rules : CType → Allocation → List Breach
 memory_rules t m =
-    number_rules m.bytes.at (kind_of m.bytes)
+    number_rules m.bytes.at (c_type_of m.bytes)
     ++ breaks (not (is_target t)) MallocPlace m.at
     ++ cast_rules t m.cast
 
 -- what goes to a place of the type
-abbrev pub right_rules : CType → Right → List Fault
+abbrev pub right_rules : CType → Right → List Breach
 right_rules t (right_side.Value v) = value_rules t v
-right_rules t (right_side.Result c) = scalar_rules c.at c.kind ++ breaks (clash t false c.kind) TypeMismatch c.at
+right_rules t (right_side.Result c) = scalar_rules c.at c.c_type ++ breaks (clash t false c.c_type) TypeMismatch c.at
 right_rules t (right_side.Memory m) = memory_rules t m
 
 -- the value in the place's type
@@ -96,16 +96,16 @@ stored structs p t (right_side.Memory m) = action.Malloc p (value m.bytes) (exte
 
 -- a = r
 unfoldable pub assign : List Struct → Found → Right → Judged Action
-assign structs a r = by (place_rules a ++ right_rules (kind_of a) r) (stored structs (place_in a.form) (kind_of a) r)
+assign structs a r = by (place_rules a ++ right_rules (c_type_of a) r) (stored structs (place_in a.form) (c_type_of a) r)
 
 -- a o= v is a = a o v
 abbrev pub updated : List Struct → ℕ → Place Term → CType → Run → Judged Action
 updated structs at p t run =
-    by (breaks (clash t false run.kind) TypeMismatch at)
-    (stored structs p t (right_side.Value (plain run.at run.kind (closed run))))
+    by (breaks (clash t false run.c_type) TypeMismatch at)
+    (stored structs p t (right_side.Value (plain run.at run.c_type (closed run))))
 
 unfoldable pub compound : List Struct → Operator → Found → Found → Judged Action
-compound structs o a v = of_parts (by (place_rules a) a) (link structs o (begin a) v) (λ x. updated structs v.at (place_in x.form) (kind_of x))
+compound structs o a v = of_parts (by (place_rules a) a) (link structs o (begin a) v) (λ x. updated structs v.at (place_in x.form) (c_type_of x))
 
 -- a++ is a = a + 1
 abbrev pub step_operator : Step → Operator
@@ -131,14 +131,14 @@ expression_statement e c None = call_statement e c
 -- ---- conditions and single statements
 
 abbrev pub condition_of : Found → Judged Term
-condition_of a = by (scalar_rules a.at (kind_of a)) (value a)
+condition_of a = by (scalar_rules a.at (c_type_of a)) (value a)
 
 -- return (6.8.6.4)
-abbrev pub result_rules : CType → Option Found → List Fault
+abbrev pub result_rules : CType → Option Found → List Breach
 result_rules result None = []
 result_rules result (Some v) = value_rules result v
 
-abbrev pub return_rules : ℕ → CType → Option Found → List Fault
+abbrev pub return_rules : ℕ → CType → Option Found → List Breach
 return_rules at result v =
     breaks (if is_void result then is_some v else is_none v) ReturnValue at
     ++ result_rules result v
@@ -148,7 +148,7 @@ returned at result v = by (return_rules at result v) (typed.Return (option_map (
 
 -- free (7.20.3.2)
 unfoldable pub freed : Found → Judged Typed
-freed a = by (scalar_rules a.at (kind_of a) ++ breaks (not (is_pointer (kind_of a))) NotPointer a.at) (typed.Free (value a))
+freed a = by (scalar_rules a.at (c_type_of a) ++ breaks (not (is_pointer (c_type_of a))) NotPointer a.at) (typed.Free (value a))
 
 -- printf (7.19.6.3)
 abbrev pub printed_pieces : ℕ → List Found → Option (List Piece) → Judged Typed
@@ -166,7 +166,7 @@ loop_word looping at word = by (breaks (not looping) LoopWord at) word
 
 -- what is sound, in another form
 abbrev pub seen_as : {A B : Type 0} → (A → B) → Judged A → Judged B
-seen_as f j = record { faults = j.faults; found = option_map f j.found }
+seen_as f j = record { breaches = j.breaches; found = option_map f j.found }
 
 pub record Walked (A : Type 0) : Type 0 where
   pub judged : Judged A
@@ -184,7 +184,7 @@ walk_all [] s = record { judged = by [] []; scope = s }
 walk_all (w ∷ ws) s =
     let first = w s in
     let rest = walk_all ws first.scope in
-    record { judged = record { faults = first.judged.faults ++ rest.judged.faults; found = more first.judged.found rest.judged.found }; scope = rest.scope }
+    record { judged = record { breaches = first.judged.breaches ++ rest.judged.breaches; found = more first.judged.found rest.judged.found }; scope = rest.scope }
 
 -- a walk that is seen in another way
 abbrev pub walk_as : {A B : Type 0} → (A → B) → Walk A → Walk B
@@ -211,11 +211,11 @@ branch_of p = record { test = p.0; body = one p.1 }
 abbrev pub sizes_of : InitDeclarator → List ℕ
 sizes_of d = map (λ n. n.value) d.sizes
 
-abbrev pub variable_rules : List Struct → Scope → CType → InitDeclarator → List Fault
-variable_rules structs s kind d =
+abbrev pub variable_rules : List Struct → Scope → CType → InitDeclarator → List Breach
+variable_rules structs s c_type d =
     breaks (is_here s d.name.bytes) Redeclared d.name.at
-    ++ breaks (is_too_large structs kind (sizes_of d)) ArraySize d.name.at
-    ++ breaks (is_incomplete structs kind) IncompleteType d.name.at
+    ++ breaks (is_too_large structs c_type (sizes_of d)) ArraySize d.name.at
+    ++ breaks (is_incomplete structs c_type) IncompleteType d.name.at
 
 module _ (functions : Bytes → Option Signature) (structs : List Struct) where
   abbrev pub condition : Scope → Expr → Judged Term
@@ -244,12 +244,12 @@ module _ (functions : Bytes → Option Signature) (structs : List Struct) where
 
   abbrev pub variable_walk : TypeSpecifier → InitDeclarator → Walk Action
   variable_walk t d s =
-      let kind = type_of structs None t d.stars in
-      let object = object_type structs kind (sizes_of d) in
+      let c_type = type_of structs None t d.stars in
+      let object = object_type structs c_type (sizes_of d) in
       let inside = declare s d.name.bytes object in
       let number = length s.variables in
       record {
-        judged = after (variable_rules structs s kind d) (initial inside (place d.name.at object (variable number)) d.value number);
+        judged = after (variable_rules structs s c_type d) (initial inside (place d.name.at object (variable number)) d.value number);
         scope = inside;
       }
 

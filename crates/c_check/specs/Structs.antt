@@ -12,7 +12,7 @@ use Rattle.c_kernel.specs.declared.types.Extent.{Extent}
 use Rattle.c_kernel.specs.declared.types.ObjectType.{ObjectType}
 use Rattle.c_kernel.specs.declared.types.Struct.{Struct}
 use Rattle.c_kernel.specs.Extent.{extent, nothing}
-use Rattle.c_rules.specs.declared.fault.Fault.{Fault}
+use Rattle.c_rules.specs.declared.breach.Breach.{Breach}
 use Rattle.c_rules.specs.Judged.{breaks}
 use Rattle.c_rules.specs.Scope.{Bytes}
 use Rattle.c_rules.specs.Types.{number_of, type_of, specifier_rules, is_incomplete, object_type, is_too_large, member_bytes, member_at, numbered}
@@ -81,17 +81,17 @@ all_structs structs (i ∷ is) = all_structs (with_item structs i) is
 
 -- ---- rules
 
-abbrev pub member_rules : List Struct → Bytes → TypeSpecifier → Laid → MemberDeclarator → List Fault
+abbrev pub member_rules : List Struct → Bytes → TypeSpecifier → Laid → MemberDeclarator → List Breach
 member_rules structs own t laid d =
     breaks (is_some (numbered 0 laid.members (member_bytes d.name))) Redeclared (member_at d.name)
     ++ breaks (is_too_large structs (member_type structs own t d) (member_sizes d)) ArraySize (member_at d.name)
     ++ breaks (is_incomplete structs (member_type structs own t d)) IncompleteType (member_at d.name)
 
-abbrev pub members_rules : List Struct → Bytes → TypeSpecifier → Laid → List MemberDeclarator → List Fault
+abbrev pub members_rules : List Struct → Bytes → TypeSpecifier → Laid → List MemberDeclarator → List Breach
 members_rules structs own t laid [] = []
 members_rules structs own t laid (d ∷ ds) = member_rules structs own t laid d ++ members_rules structs own t (with_member structs own t laid d) ds
 
-abbrev pub parts_rules : List Struct → Bytes → Laid → List MemberDeclaration → List Fault
+abbrev pub parts_rules : List Struct → Bytes → Laid → List MemberDeclaration → List Breach
 parts_rules structs own laid [] = []
 parts_rules structs own laid (d ∷ ds) =
     specifier_rules structs (Some own) d.specifier
@@ -99,11 +99,11 @@ parts_rules structs own laid (d ∷ ds) =
     ++ parts_rules structs own (with_members structs own d.specifier laid d.declarators) ds
 
 -- nothing is said of its size where a member breaks a rule
-abbrev pub size_rules : List Fault → Bool → ℕ → List Fault
+abbrev pub size_rules : List Breach → Bool → ℕ → List Breach
 size_rules [] full at = breaks full ArraySize at
 size_rules (f ∷ fs) full at = []
 
-abbrev pub struct_rules : List Struct → Name → List MemberDeclaration → List Fault
+abbrev pub struct_rules : List Struct → Name → List MemberDeclaration → List Breach
 struct_rules structs name ds =
     let parts = parts_rules structs name.bytes none_laid ds in
     breaks (is_some (number_of structs name.bytes)) Redeclared name.at

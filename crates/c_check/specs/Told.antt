@@ -30,13 +30,13 @@ within around word = knowing around.known word around.result_type
 
 -- a part is found to be this, and what it breaks is noted
 abbrev pub Tells : {A : Type 0} → Judge → Judge → Option A → Judged A → Type 0
-Tells before now found judged = record { found : found ≡ judged.found; faults : Notes before.breaches now.breaches judged.faults }
+Tells before now found judged = record { found : found ≡ judged.found; breaches : Notes before.breaches now.breaches judged.breaches }
 
 -- and its names are in scope; the blocks around stay as they are
 abbrev pub Leads : {A : Type 0} → Walker → Walker → Option A → Walked A → Type 0
 Leads before now found walked = record {
   found : found ≡ walked.judged.found;
-  faults : Notes before.judge.breaches now.judge.breaches walked.judged.faults;
+  breaches : Notes before.judge.breaches now.judge.breaches walked.judged.breaches;
   scope : scope_of now.scope ≡ walked.scope;
   around : (scope_of now.scope).around ≡ (scope_of before.scope).around;
 }

@@ -8,7 +8,7 @@ ghost use Rattle.c_check.specs.Told.{Walks, within};
 
 mod conditional;
 
-use crate::form::{actions_of, block_of, do_of, for_of, while_of};
+use crate::form::{block_of, do_of, for_of, while_of};
 use crate::judge::{Answer, Names};
 use crate::parts::{both, gather_inner};
 use crate::walker::{Around, Walker};
@@ -42,12 +42,9 @@ impl Walker {
     fn statement(&mut self, around: Around<'_>, s: &Stmt) -> Answer<Boxed<Typed>>
         ensures { IfOk result (λ found. Walks self.old self.new found (within around.entry walked s.now around.entry.looping)) }
     {
-        let alloc = self.judge.alloc;
         let known = around.known;
-        let scope = &self.scope;
-        let names = Names { known, scope };
         match s {
-            Stmt::Empty(_) => actions_of(alloc, Items::new(alloc)),
+            Stmt::Empty(_) => self.judge.nothing(),
             Stmt::Break(at) => self.judge.loop_word(around.looping, *at, Typed::Break),
             Stmt::Continue(at) => self.judge.loop_word(around.looping, *at, Typed::Continue),
             Stmt::Block(b) => self.block_statement(around, b),
@@ -67,19 +64,16 @@ impl Walker {
                 body,
                 ..
             } => self.for_loop(around, (start, test, step), body.get()),
-            Stmt::Return { at, value } => {
-                let result_type = around.result_type;
-                self.judge.return_statement(names, result_type, *at, value)
-            }
+            Stmt::Return { at, value } => self.return_statement(around, *at, value),
             Stmt::Print {
                 format,
                 arguments,
                 ..
-            } => self.judge.print(names, format, arguments),
-            Stmt::Mark(_) => Ok(Some(Boxed::new(alloc, Typed::Mark)?)),
-            Stmt::Simple(x) => self.judge.simple_statement(names, x),
-            Stmt::Free { pointer, .. } => self.judge.free(names, pointer),
-            Stmt::Mpi(c) => self.judge.mpi_call(names, c),
+            } => self.print(known, format, arguments),
+            Stmt::Mark(_) => self.judge.checkpoint(),
+            Stmt::Simple(x) => self.simple_statement(known, x),
+            Stmt::Free { pointer, .. } => self.free(known, pointer),
+            Stmt::Mpi(c) => self.mpi_statement(known, c),
         }
     }
 

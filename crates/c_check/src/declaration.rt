@@ -36,13 +36,13 @@ pub fn sizes_of(alloc: Global, sizes: &[Number]) -> Result<Items<u64>, AllocErro
 fn is_too_large(
     alloc: Global,
     structs: &[Struct],
-    kind: CType,
+    c_type: CType,
     sizes: &[Number],
 ) -> Result<bool, AllocError>
-    ensures { IfOk result (λ large. large ≡ types.is_too_large structs.now kind (map (λ n. n.value) sizes.now)) }
+    ensures { IfOk result (λ large. large ≡ types.is_too_large structs.now c_type (map (λ n. n.value) sizes.now)) }
 {
     let sizes = sizes_of(alloc, sizes)?;
-    let room = room(element_cells(structs, kind), sizes.as_slice());
+    let room = room(element_cells(structs, c_type), sizes.as_slice());
     Ok(room.is_none())
 }
 
@@ -50,13 +50,13 @@ fn is_too_large(
 fn object_of(
     alloc: Global,
     structs: &[Struct],
-    kind: CType,
+    c_type: CType,
     sizes: &[Number],
 ) -> Result<ObjectType, AllocError>
-    ensures { IfOk result (λ object. object ≡ types.object_type structs.now kind (map (λ n. n.value) sizes.now)) }
+    ensures { IfOk result (λ object. object ≡ types.object_type structs.now c_type (map (λ n. n.value) sizes.now)) }
 {
     let sizes = sizes_of(alloc, sizes)?;
-    object_type(alloc, structs, kind, sizes.as_slice())
+    object_type(alloc, structs, c_type, sizes.as_slice())
 }
 
 impl Judge {
@@ -64,18 +64,18 @@ impl Judge {
     fn note_variable(
         &mut self,
         names: Names<'_>,
-        kind: CType,
+        c_type: CType,
         d: &InitDeclarator,
     ) -> Result<(), AllocError>
-        ensures { OnOk result (Notes self.old.breaches self.new.breaches (walk.variable_rules names.entry.known.structs.now (scope_of names.entry.scope.now) kind d.now)) }
+        ensures { OnOk result (Notes self.old.breaches self.new.breaches (walk.variable_rules names.entry.known.structs.now (scope_of names.entry.scope.now) c_type d.now)) }
     {
         let structs = names.known.structs;
         let again = names.scope.is_here(d.name.bytes.as_slice());
         self.rule(again, Kind::Redeclared, d.name.at)?;
-        let large = is_too_large(self.alloc, structs, kind, d.sizes.as_slice())?;
+        let large = is_too_large(self.alloc, structs, c_type, d.sizes.as_slice())?;
         self.rule(large, Kind::ArraySize, d.name.at)?;
         self.rule(
-            is_incomplete(structs, kind),
+            is_incomplete(structs, c_type),
             Kind::IncompleteType,
             d.name.at,
         )
@@ -115,10 +115,10 @@ impl Walker {
     {
         let alloc = self.judge.alloc;
         let structs = known.structs;
-        let kind = type_of(structs, None, t, d.stars);
+        let c_type = type_of(structs, None, t, d.stars);
         let scope = &self.scope;
-        self.judge.note_variable(Names { known, scope }, kind, d)?;
-        let object = object_of(alloc, structs, kind, d.sizes.as_slice())?;
+        self.judge.note_variable(Names { known, scope }, c_type, d)?;
+        let object = object_of(alloc, structs, c_type, d.sizes.as_slice())?;
         let number = self.scope.variables.len();
         self.scope
             .declare(alloc, d.name.bytes.as_slice(), object.copy(alloc)?)?;

@@ -12,6 +12,7 @@ use crate::parts::{both, gather};
 use c_kernel::IntegerType;
 use c_rules::found::{Found, Invocation, Run};
 use c_rules::rules::{call, cast, constant, literal, misplaced_call};
+use c_rules::signature::Callee;
 use c_tree::Kind;
 use c_tree::tree::{Expr, Link, Name, Primary, Suffix, TypeName};
 use sqlite_items::{Boxed, Items};
@@ -140,11 +141,11 @@ impl Judge {
     ) -> Answer<Boxed<Found>>
         ensures { IfOk result (λ found. Tells self.old self.new found (walk.whole_cast at (walk.named_type names.entry.known.structs.now name.now) (among names.entry judged operand.now))) }
     {
-        let kind = self.named_type(names.known.structs, name)?;
+        let c_type = self.named_type(names.known.structs, name)?;
         let a = self.expression(names, operand)?;
-        match both(kind, a) {
+        match both(c_type, a) {
             None => Ok(None),
-            Some((kind, a)) => cast(self.alloc, &mut self.breaches, at, kind, a),
+            Some((c_type, a)) => cast(self.alloc, &mut self.breaches, at, c_type, a),
         }
     }
 
@@ -216,8 +217,12 @@ impl Judge {
             Some(f) => match values {
                 None => Ok(None),
                 Some(values) => {
-                    let main = is_main(name);
-                    misplaced_call(&mut self.breaches, main, name.at, f, values.as_slice())
+                    let callee = Callee {
+                        at: name.at,
+                        main: is_main(name),
+                        signature: f,
+                    };
+                    misplaced_call(&mut self.breaches, callee, values.as_slice())
                 }
             },
         }
@@ -241,8 +246,12 @@ impl Judge {
             Some(f) => match values {
                 None => Ok(None),
                 Some(values) => {
-                    let main = is_main(name);
-                    call(self.alloc, &mut self.breaches, main, at, name.at, f, values)
+                    let callee = Callee {
+                        at: name.at,
+                        main: is_main(name),
+                        signature: f,
+                    };
+                    call(self.alloc, &mut self.breaches, at, callee, values)
                 }
             },
         }

@@ -4,15 +4,15 @@ ghost use Rattle.std.specs.Prelude.{◌≡◌};
 ghost use Rattle.c_check.specs.Program as program;
 ghost use Rattle.c_check.specs.declared.fault.CheckFault.TheVariants.{NoMemory};
 
-use c_rules::fault::Fault;
+use c_rules::breach::Breach;
 use c_tree::Kind;
 use std::alloc::AllocError;
 use thiserror::Error;
 
-/// Why a tree is no program. A place is the offset of a byte in the text.
+/// Why a tree is no program.
 #[derive(Clone, Copy, Debug, Error, PartialEq, Eq)]
 pub enum CheckFault {
-    /// This rule is broken at the lowest place, and of several there it is the first of the table.
+    /// This rule is broken at the lowest offset in the text, and of several there it is the first of the table.
     #[error("{kind:?} at byte {at}")]
     Broken { kind: Kind, at: u32 },
     #[error("no memory")]
@@ -28,7 +28,7 @@ impl From<AllocError> for CheckFault {
 }
 
 /// The first of the breaches.
-pub fn first(breaches: &[Fault]) -> Option<Fault>
+pub fn first(breaches: &[Breach]) -> Option<Breach>
     ensures { result ≡ program.first breaches.now }
 {
     let mut found = None;
@@ -38,7 +38,7 @@ pub fn first(breaches: &[Fault]) -> Option<Fault>
     found
 }
 
-fn sooner(found: Option<Fault>, breach: Fault) -> Option<Fault>
+fn sooner(found: Option<Breach>, breach: Breach) -> Option<Breach>
     ensures { result ≡ program.sooner found breach }
 {
     match found {
@@ -53,15 +53,15 @@ fn sooner(found: Option<Fault>, breach: Fault) -> Option<Fault>
     }
 }
 
-fn precedes(f: Fault, g: Fault) -> bool
+fn precedes(f: Breach, g: Breach) -> bool
     ensures { result ≡ program.precedes f g }
 {
-    f.at < g.at || (f.at == g.at && rank(f.kind) < rank(g.kind))
+    f.at < g.at || (f.at == g.at && precedence(f.kind) < precedence(g.kind))
 }
 
-// The place of a rule in the table.
-fn rank(kind: Kind) -> u8
-    ensures { result ≡ program.rank kind }
+// The number of a rule in the table.
+fn precedence(kind: Kind) -> u8
+    ensures { result ≡ program.precedence kind }
 {
     kind as u8
 }

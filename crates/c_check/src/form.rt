@@ -11,13 +11,6 @@ use c_kernel::program::{Action, Arm, Expr as Term, Stmt as Typed};
 use sqlite_items::{Boxed, Items};
 use std::alloc::Global;
 
-/// What is done at once.
-pub fn actions_of(alloc: Global, actions: Items<Action>) -> Answer<Boxed<Typed>>
-    ensures { IfOk result (λ found. found ≡ Some (typed.Actions actions)) }
-{
-    Ok(Some(Boxed::new(alloc, Typed::Actions(actions))?))
-}
-
 /// A block.
 pub fn block_of(alloc: Global, steps: Option<Items<Typed>>) -> Answer<Boxed<Typed>>
     ensures { IfOk result (λ found. found ≡ option_map typed.Block steps) }

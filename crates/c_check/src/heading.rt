@@ -13,8 +13,8 @@ use c_kernel::{CType, Struct};
 use c_rules::scope::Scope;
 use c_rules::signature::{Signature, function};
 use c_rules::types::{
-    is_array_size, is_null, is_struct, is_void, note_specifier, one_object, place_of, pointer_to,
-    same_type, same_types, type_of,
+    is_array_size, is_null, is_struct, is_void, note_specifier, one_object, pointer_to, same_type,
+    same_types, specifier_at, type_of,
 };
 use c_tree::Kind;
 use c_tree::tree::{Bound, Heading, Name, Parameter, PlainType, TypeSpecifier};
@@ -54,23 +54,23 @@ fn is_word(specifier: &TypeSpecifier, word: PlainType) -> bool
 fn parameter_type(structs: &[Struct], p: &Parameter) -> CType
     ensures { result ≡ headers.parameter_type structs.now p.now }
 {
-    let kind = type_of(structs, None, &p.specifier, p.stars);
+    let c_type = type_of(structs, None, &p.specifier, p.stars);
     match p.array {
-        None => kind,
-        Some(_) => pointer_to(kind),
+        None => c_type,
+        Some(_) => pointer_to(c_type),
     }
 }
 
 /// The types of a header's parameters.
 pub fn types_of(alloc: Global, structs: &[Struct], h: &Heading) -> Result<Items<CType>, AllocError>
-    ensures { IfOk result (λ kinds. kinds ≡ headers.types_of structs.now h.now) }
+    ensures { IfOk result (λ c_types. c_types ≡ headers.types_of structs.now h.now) }
 {
     let parameters = parameters_of(h.parameters.as_slice());
-    let mut kinds = Items::new(alloc);
+    let mut c_types = Items::new(alloc);
     for p in parameters {
-        kinds.push(parameter_type(structs, p))?;
+        c_types.push(parameter_type(structs, p))?;
     }
-    Ok(kinds)
+    Ok(c_types)
 }
 
 /// The type of a function's result.
@@ -112,10 +112,10 @@ fn is_second(k: usize, defined: bool, first: Option<&Signature>) -> bool
     }
 }
 
-fn is_bad_result(kind: CType) -> bool
-    ensures { result ≡ headers.is_bad_result kind }
+fn is_bad_result(c_type: CType) -> bool
+    ensures { result ≡ headers.is_bad_result c_type }
 {
-    is_struct(kind) || is_null(kind)
+    is_struct(c_type) || is_null(c_type)
 }
 
 // Against the first header of its name.
@@ -130,9 +130,9 @@ fn differs(
     match first {
         None => Ok(false),
         Some(f) => {
-            let kinds = types_of(alloc, structs, h)?;
+            let c_types = types_of(alloc, structs, h)?;
             let same = same_type(result_of(structs, h), f.result)
-                && same_types(kinds.as_slice(), f.parameters.as_slice());
+                && same_types(c_types.as_slice(), f.parameters.as_slice());
             Ok(!same)
         }
     }
@@ -188,11 +188,11 @@ fn is_vector(p: &Parameter) -> bool
 // ---- parameters
 
 // Its name, or its type where it has none.
-fn parameter_place(p: &Parameter) -> u32
-    ensures { result ≡ headers.parameter_place p.now }
+fn parameter_at(p: &Parameter) -> u32
+    ensures { result ≡ headers.parameter_at p.now }
 {
     match &p.name {
-        None => place_of(&p.specifier),
+        None => specifier_at(&p.specifier),
         Some(name) => name.at,
     }
 }
@@ -222,8 +222,8 @@ fn is_bad_bound(bound: &Option<Bound>) -> bool
 fn is_unfit(structs: &[Struct], defined: bool, p: &Parameter) -> bool
     ensures { result ≡ headers.is_unfit structs.now defined p.now }
 {
-    let kind = parameter_type(structs, p);
-    is_void(kind) || is_null(kind) || is_struct(kind) || (defined && p.name.is_none())
+    let c_type = parameter_type(structs, p);
+    is_void(c_type) || is_null(c_type) || is_struct(c_type) || (defined && p.name.is_none())
 }
 
 // A parameter comes into scope; those of main are no variables.
@@ -342,7 +342,7 @@ impl Judge {
     ) -> Result<(), AllocError>
         ensures { OnOk result (Notes self.old.breaches self.new.breaches (headers.parameter_rules structs.now defined (scope_of scope.now) p.now)) }
     {
-        let at = parameter_place(p);
+        let at = parameter_at(p);
         let mark = self.mark();
         note_specifier(&mut self.breaches, structs, None, &p.specifier)?;
         let broke = self.broke(mark);

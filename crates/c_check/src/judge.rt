@@ -5,7 +5,7 @@ ghost use Rattle.c_rules.specs.Judged.{Notes, breaks, refused};
 ghost use Rattle.c_check.specs.Told.{Tells};
 
 use c_kernel::Struct;
-use c_rules::fault::{Fault, rule};
+use c_rules::breach::{Breach, rule};
 use c_rules::scope::Scope;
 use c_rules::signature::Signature;
 use c_tree::Kind;
@@ -33,7 +33,7 @@ pub struct Names<'a> {
 #[derive(Drop)]
 pub struct Judge {
     pub alloc: Global,
-    pub breaches: Vec<Fault>,
+    pub breaches: Vec<Breach>,
 }
 
 impl Judge {
@@ -47,7 +47,7 @@ impl Judge {
         }
     }
 
-    /// Notes that a rule is broken at a place, where it is.
+    /// Notes that a rule is broken, where it is.
     pub fn rule(&mut self, broken: bool, kind: Kind, at: u32) -> Result<(), AllocError>
         ensures { OnOk result (Notes self.old.breaches self.new.breaches (breaks broken kind at)) }
     {

@@ -1,6 +1,6 @@
 //! Calls of MPI.
 
-ghost use Rattle.std.specs.Prelude.{◌≡◌, ◌++◌, IfOk, OnOk, map};
+ghost use Rattle.std.specs.Prelude.{◌≡◌, ◌∷◌, [], ◌++◌, IfOk, OnOk, map};
 ghost use Rattle.std.specs.Option.{option_copied};
 ghost use Rattle.c_rules.specs.Judged as nodes;
 ghost use Rattle.c_rules.specs.Judged.{Notes};
@@ -16,7 +16,7 @@ use c_kernel::program::{MpiCall as TypedCall, MpiFunction, Stmt as Typed};
 use c_rules::found::Found;
 use c_rules::rules::{Role, note_roles, roles_of, roles_values};
 use c_rules::scope::{Entity, Scope};
-use c_tree::tree::{Expr, MpiCall, Name, Status};
+use c_tree::tree::{Buffer, Expr, MpiCall, Name, Status};
 use c_tree::{Datatype as Word, Kind};
 use mpi_words::Datatype;
 use sqlite_items::{Boxed, Items};
@@ -52,6 +52,31 @@ fn function_of(c: &MpiCall) -> Option<MpiFunction>
     }
 }
 
+// The arguments of a message: its buffer, the rank at its other end and its tag.
+fn message<'c>(
+    alloc: Global,
+    buffer: &'c Buffer,
+    rank: &'c Expr,
+    tag: &'c Expr,
+) -> Result<Vec<&'c Expr>, AllocError>
+    ensures { IfOk result (λ es. map (λ e. e.now) es.items ≡ buffer.now.start ∷ buffer.now.count ∷ rank.now ∷ tag.now ∷ []) }
+{
+    Ok(vec![in alloc; buffer.start.get(), buffer.count.get(), rank, tag]?)
+}
+
+// And its status.
+fn message_with<'c>(
+    alloc: Global,
+    buffer: &'c Buffer,
+    rank: &'c Expr,
+    tag: &'c Expr,
+    status: &'c Expr,
+) -> Result<Vec<&'c Expr>, AllocError>
+    ensures { IfOk result (λ es. map (λ e. e.now) es.items ≡ buffer.now.start ∷ buffer.now.count ∷ rank.now ∷ tag.now ∷ status.now ∷ []) }
+{
+    Ok(vec![in alloc; buffer.start.get(), buffer.count.get(), rank, tag, status]?)
+}
+
 // The arguments that have values, in the text's order.
 fn arguments_of(alloc: Global, c: &MpiCall) -> Result<Vec<&Expr>, AllocError>
     ensures { IfOk result (λ es. map (λ e. e.now) es.items ≡ mpi.arguments_of c.now) }
@@ -65,7 +90,7 @@ fn arguments_of(alloc: Global, c: &MpiCall) -> Result<Vec<&Expr>, AllocError>
             destination,
             tag,
             ..
-        } => Ok(vec![in alloc; buffer.start.get(), buffer.count.get(), destination, tag]?),
+        } => message(alloc, buffer, destination, tag),
         MpiCall::Recv {
             buffer,
             source,
@@ -73,19 +98,8 @@ fn arguments_of(alloc: Global, c: &MpiCall) -> Result<Vec<&Expr>, AllocError>
             status,
             ..
         } => match status {
-            Status::Ignore(_) => Ok(vec![in alloc;
-                buffer.start.get(),
-                buffer.count.get(),
-                source,
-                tag,
-            ]?),
-            Status::Given(e) => Ok(vec![in alloc;
-                buffer.start.get(),
-                buffer.count.get(),
-                source,
-                tag,
-                e.get(),
-            ]?),
+            Status::Ignore(_) => message(alloc, buffer, source, tag),
+            Status::Given(e) => message_with(alloc, buffer, source, tag, e.get()),
         },
         MpiCall::GetCount { status, result, .. } => match status {
             Status::Ignore(_) => Ok(vec![in alloc; result]?),

@@ -47,7 +47,7 @@ pub fn width(long: bool) -> IntegerType
 /// A constant that has a name.
 pub fn constant_of(alloc: Global, at: u32, word: Constant) -> Result<Boxed<Found>, AllocError>
     ensures found { IfOk result (λ found. Some found ≡ (rules.constant_word at word).found) }
-    ensures faults { (rules.constant_word at word).faults ≡ [] }
+    ensures breaches { (rules.constant_word at word).breaches ≡ [] }
 {
     match word {
         Constant::Null => null(alloc, at),
@@ -145,7 +145,7 @@ impl Judge {
     {
         match self.named_type(structs, name)? {
             None => Ok(None),
-            Some(kind) => size_of(self.alloc, &mut self.breaches, structs, at, kind),
+            Some(c_type) => size_of(self.alloc, &mut self.breaches, structs, at, c_type),
         }
     }
 

@@ -114,7 +114,7 @@ impl Judge {
             None => Ok(Some(None)),
             Some((at, name)) => match self.named_type(structs, name)? {
                 None => Ok(None),
-                Some(kind) => Ok(Some(Some(Cast { at, kind }))),
+                Some(c_type) => Ok(Some(Some(Cast { at, c_type }))),
             },
         }
     }

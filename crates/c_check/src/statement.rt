@@ -13,7 +13,8 @@ use c_kernel::{CType, IntegerType, Struct, extent_of};
 use c_rules::format::{fit, pieces};
 use c_rules::found::{Allocation, Cast, Form, Found, Invocation, Right, Run};
 use c_rules::rules::{
-    begin, clash, closed, constant, kind_of, note_value, number, scalar, value, value_as, variable,
+    begin, c_type_of, clash, closed, constant, note_value, number, scalar, value, value_as,
+    variable,
 };
 use c_rules::types::{
     is_array, is_pointer, is_struct, is_target, is_void, same_type, scalar_of, target,
@@ -29,7 +30,7 @@ use std::alloc::{AllocError, Global};
 #[derive(Drop)]
 struct Destination {
     place: Boxed<Place<Term>>,
-    kind: CType,
+    c_type: CType,
 }
 
 // Whether an assignment can write it: a place, and no array or struct.
@@ -57,11 +58,11 @@ fn place_in(alloc: Global, form: &Form) -> Result<Boxed<Place<Term>>, AllocError
 
 fn place_to_write(alloc: Global, a: &Found) -> Result<Destination, AllocError>
     ensures place { IfOk result (λ to. to.place ≡ walk.place_in a.now.form) }
-    ensures kind { IfOk result (λ to. to.kind ≡ rules.kind_of a.now) }
+    ensures c_type { IfOk result (λ to. to.c_type ≡ rules.c_type_of a.now) }
 {
     Ok(Destination {
         place: place_in(alloc, &a.form)?,
-        kind: kind_of(a),
+        c_type: c_type_of(a),
     })
 }
 
@@ -74,12 +75,12 @@ fn stored(
     to: Destination,
     r: Boxed<Right>,
 ) -> Result<Boxed<Action>, AllocError>
-    ensures { IfOk result (λ action. action ≡ walk.stored structs.now to.place to.kind r) }
+    ensures { IfOk result (λ action. action ≡ walk.stored structs.now to.place to.c_type r) }
 {
-    let Destination { place, kind } = to;
+    let Destination { place, c_type } = to;
     match r.into_inner() {
-        Right::Value(v) => set(alloc, place, kind, v),
-        Right::Result(c) => called_into(alloc, place, kind, c),
+        Right::Value(v) => set(alloc, place, c_type, v),
+        Right::Result(c) => called_into(alloc, place, c_type, c),
         Right::Memory(m) => {
             let bytes = value(alloc, m.bytes)?;
             Boxed::new(
@@ -87,7 +88,7 @@ fn stored(
                 Action::Malloc {
                     place: place.into_inner(),
                     bytes: bytes.into_inner(),
-                    each: extent_of(structs, target(kind)),
+                    each: extent_of(structs, target(c_type)),
                 },
             )
         }
@@ -97,12 +98,12 @@ fn stored(
 fn set(
     alloc: Global,
     place: Boxed<Place<Term>>,
-    kind: CType,
+    c_type: CType,
     v: Boxed<Found>,
 ) -> Result<Boxed<Action>, AllocError>
-    ensures { IfOk result (λ action. action ≡ Action.Set place (rules.value_as kind v)) }
+    ensures { IfOk result (λ action. action ≡ Action.Set place (rules.value_as c_type v)) }
 {
-    let value = value_as(alloc, kind, v)?;
+    let value = value_as(alloc, c_type, v)?;
     Boxed::new(
         alloc,
         Action::Set {
@@ -115,14 +116,14 @@ fn set(
 fn called_into(
     alloc: Global,
     place: Boxed<Place<Term>>,
-    kind: CType,
+    c_type: CType,
     c: Invocation,
 ) -> Result<Boxed<Action>, AllocError>
-    ensures { IfOk result (λ action. action ≡ Action.Call (Some (record { place = place; kind = types.scalar_of kind })) c.function c.arguments) }
+    ensures { IfOk result (λ action. action ≡ Action.Call (Some (record { place = place; kind = types.scalar_of c_type })) c.function c.arguments) }
 {
     let target = Target {
         place: place.into_inner(),
-        kind: scalar_of(kind),
+        kind: scalar_of(c_type),
     };
     Boxed::new(
         alloc,
@@ -150,45 +151,45 @@ fn values_of(alloc: Global, vs: Items<Boxed<Found>>) -> Result<Items<Term>, Allo
 impl Judge {
     // ---- assignments
 
-    fn note_cast(&mut self, kind: CType, cast: Option<Cast>) -> Result<(), AllocError>
-        ensures { OnOk result (Notes self.old.breaches self.new.breaches (walk.cast_rules kind cast)) }
+    fn note_cast(&mut self, c_type: CType, cast: Option<Cast>) -> Result<(), AllocError>
+        ensures { OnOk result (Notes self.old.breaches self.new.breaches (walk.cast_rules c_type cast)) }
     {
         match cast {
             None => Ok(()),
-            Some(c) => self.rule(!same_type(c.kind, kind), Kind::TypeMismatch, c.at),
+            Some(c) => self.rule(!same_type(c.c_type, c_type), Kind::TypeMismatch, c.at),
         }
     }
 
     #[tactic(auto, using(std::proofs::Common::append_assoc))]
-    fn note_memory(&mut self, kind: CType, m: &Allocation) -> Result<(), AllocError>
-        ensures { OnOk result (Notes self.old.breaches self.new.breaches (walk.memory_rules kind m.now)) }
+    fn note_memory(&mut self, c_type: CType, m: &Allocation) -> Result<(), AllocError>
+        ensures { OnOk result (Notes self.old.breaches self.new.breaches (walk.memory_rules c_type m.now)) }
     {
         let bytes = m.bytes.get();
-        number(&mut self.breaches, bytes.at, kind_of(bytes))?;
-        self.rule(!is_target(kind), Kind::MallocPlace, m.at)?;
-        self.note_cast(kind, m.cast)
+        number(&mut self.breaches, bytes.at, c_type_of(bytes))?;
+        self.rule(!is_target(c_type), Kind::MallocPlace, m.at)?;
+        self.note_cast(c_type, m.cast)
     }
 
     #[tactic(auto, using(std::proofs::Common::append_assoc))]
-    fn note_right(&mut self, kind: CType, r: &Right) -> Result<(), AllocError>
-        ensures { OnOk result (Notes self.old.breaches self.new.breaches (walk.right_rules kind r.now)) }
+    fn note_right(&mut self, c_type: CType, r: &Right) -> Result<(), AllocError>
+        ensures { OnOk result (Notes self.old.breaches self.new.breaches (walk.right_rules c_type r.now)) }
     {
         match r {
-            Right::Value(v) => note_value(&mut self.breaches, kind, v.get()),
+            Right::Value(v) => note_value(&mut self.breaches, c_type, v.get()),
             Right::Result(c) => {
-                scalar(&mut self.breaches, c.at, c.kind)?;
-                self.rule(clash(kind, false, c.kind), Kind::TypeMismatch, c.at)
+                scalar(&mut self.breaches, c.at, c.c_type)?;
+                self.rule(clash(c_type, false, c.c_type), Kind::TypeMismatch, c.at)
             }
-            Right::Memory(m) => self.note_memory(kind, m),
+            Right::Memory(m) => self.note_memory(c_type, m),
         }
     }
 
     #[tactic(auto, using(std::proofs::Common::append_assoc))]
     fn note_assign(&mut self, a: &Found, r: &Right) -> Result<(), AllocError>
-        ensures { OnOk result (Notes self.old.breaches self.new.breaches (walk.place_rules a.now ++ walk.right_rules (rules.kind_of a.now) r.now)) }
+        ensures { OnOk result (Notes self.old.breaches self.new.breaches (walk.place_rules a.now ++ walk.right_rules (rules.c_type_of a.now) r.now)) }
     {
         self.rule(!is_assignable(&a.form), Kind::NotPlace, a.at)?;
-        self.note_right(kind_of(a), r)
+        self.note_right(c_type_of(a), r)
     }
 
     /// `a = r`.
@@ -218,9 +219,9 @@ impl Judge {
         to: Destination,
         run: Boxed<Run>,
     ) -> Answer<Boxed<Action>>
-        ensures { IfOk result (λ found. Tells self.old self.new found (walk.updated structs.now at to.place to.kind run)) }
+        ensures { IfOk result (λ found. Tells self.old self.new found (walk.updated structs.now at to.place to.c_type run)) }
     {
-        if clash(to.kind, false, run.get().kind) {
+        if clash(to.c_type, false, run.get().c_type) {
             return self.refuse(Kind::TypeMismatch, at);
         }
         let v = closed(self.alloc, run)?;
@@ -278,7 +279,7 @@ impl Judge {
         ensures { IfOk result (λ found. Tells self.old self.new found (walk.condition_of a)) }
     {
         let mark = self.mark();
-        scalar(&mut self.breaches, a.get().at, kind_of(a.get()))?;
+        scalar(&mut self.breaches, a.get().at, c_type_of(a.get()))?;
         if self.broke(mark) {
             return Ok(None);
         }
@@ -347,9 +348,9 @@ impl Judge {
         ensures { IfOk result (λ found. Tells self.old self.new found (walk.freed a)) }
     {
         let mark = self.mark();
-        let kind = kind_of(a.get());
-        scalar(&mut self.breaches, a.get().at, kind)?;
-        self.rule(!is_pointer(kind), Kind::NotPointer, a.get().at)?;
+        let c_type = c_type_of(a.get());
+        scalar(&mut self.breaches, a.get().at, c_type)?;
+        self.rule(!is_pointer(c_type), Kind::NotPointer, a.get().at)?;
         if self.broke(mark) {
             return Ok(None);
         }

@@ -21,7 +21,7 @@ use Rattle.c_kernel.specs.declared.program.Root.TheVariants as root
 use Rattle.c_kernel.specs.declared.program.Selection.TheVariants as selection
 use Rattle.c_kernel.specs.declared.program.BinaryOperator.TheVariants as binary
 use Rattle.c_kernel.specs.declared.program.Way.TheVariants.{Forward}
-use Rattle.c_rules.specs.declared.fault.Fault.{Fault}
+use Rattle.c_rules.specs.declared.breach.Breach.{Breach}
 use Rattle.c_rules.specs.declared.found.Found.{Found}
 use Rattle.c_rules.specs.declared.scope.Entity.TheVariants.{Parameter}
 use Rattle.c_rules.specs.declared.rules.roles.Role.TheVariants as role
@@ -29,7 +29,7 @@ use Rattle.c_rules.specs.Judged.{by, refused}
 use Rattle.c_rules.specs.Scope.{start, hide, visible}
 use Rattle.c_rules.specs.Types.{room, object_type, element, value_type, number_of, known_number, numbered, integer, null_type, pointer_to, is_incomplete, type_of, status_type, first_structs}
 use Rattle.c_rules.specs.Rules as rules
-use Rattle.c_rules.specs.Rules.{clash, choice_type, literal, character, constant_word, plain, place, variable, value_at, index, dot, arrow, dereference, address, plus, minus, begin}
+use Rattle.c_rules.specs.Rules.{clash, choice_type, literal, character, constant_word, plain, place, variable, value_of_place, index, dot, arrow, dereference, address, plus, minus, begin}
 use Rattle.c_rules.specs.Roles.{role_rules, role_value, roles_rules}
 
 -- ---- struct Pair { int first; long rest[2]; };
@@ -132,10 +132,10 @@ itself : value_type (one pair 3) ≡ pair
 itself = refl
 
 -- an array's value is the address of its first element
-first_address : value_at row (variable 4) ≡ typed.Address (record { root = root.Variable 4; steps = selection.Element (typed.Number (pos 0) Int) 3 ∷ [] })
+first_address : value_of_place row (variable 4) ≡ typed.Address (record { root = root.Variable 4; steps = selection.Element (typed.Number (pos 0) Int) 3 ∷ [] })
 first_address = refl
 
-load : value_at (one (pointer_to pair) 1) (variable 4) ≡ typed.Load (variable 4) scalar.Pointer
+load : value_of_place (one (pointer_to pair) 1) (variable 4) ≡ typed.Load (variable 4) scalar.Pointer
 load = refl
 
 -- ---- which types go together
@@ -252,11 +252,11 @@ unfolding arrow
 arrow_array = refl
 
 -- i->rest of an int *i, and NULL->rest
-arrow_number : (arrow structs (place 10 (one int_pointer 1) (variable 3)) (member_named 13 (codes "rest"))).faults ≡ record { kind = NotStruct; at = 10 } ∷ []
+arrow_number : (arrow structs (place 10 (one int_pointer 1) (variable 3)) (member_named 13 (codes "rest"))).breaches ≡ record { kind = NotStruct; at = 10 } ∷ []
 unfolding arrow
 arrow_number = refl
 
-arrow_null : (arrow structs (plain 10 null_type typed.Null) (member_named 16 (codes "rest"))).faults ≡ record { kind = NotPointer; at = 10 } ∷ []
+arrow_null : (arrow structs (plain 10 null_type typed.Null) (member_named 16 (codes "rest"))).breaches ≡ record { kind = NotPointer; at = 10 } ∷ []
 unfolding arrow
 arrow_null = refl
 
@@ -296,7 +296,7 @@ plus_number : (plus structs (begin p_found) (rules.constant 14 (pos 1) Int)).fou
 unfolding plus
 plus_number = refl
 
-plus_null : (plus structs (begin (plain 10 null_type typed.Null)) (rules.constant 17 (pos 1) Int)).faults ≡ record { kind = NotInteger; at = 10 } ∷ []
+plus_null : (plus structs (begin (plain 10 null_type typed.Null)) (rules.constant 17 (pos 1) Int)).breaches ≡ record { kind = NotInteger; at = 10 } ∷ []
 unfolding plus
 plus_null = refl
 
@@ -308,7 +308,7 @@ zero_minus : (minus structs (begin (literal 8 0 Int)) p_found).found ≡ Some (r
 unfolding minus
 zero_minus = refl
 
-number_minus : (minus structs (begin (literal 8 5 Int)) p_found).faults ≡ record { kind = TypeMismatch; at = 8 } ∷ []
+number_minus : (minus structs (begin (literal 8 5 Int)) p_found).breaches ≡ record { kind = TypeMismatch; at = 8 } ∷ []
 unfolding minus
 number_minus = refl
 
@@ -379,7 +379,7 @@ status_address = plain 10 (pointer_to status_type) (typed.Address (variable 5))
 abbrev null_found : Found
 null_found = plain 10 null_type typed.Null
 
-abbrev at_ten : Kind → Fault
+abbrev at_ten : Kind → Breach
 at_ten kind = record { kind = kind; at = 10 }
 
 long_tag : role_rules role.Number (place 10 (one (integer Long) 1) (variable 0)) ≡ []

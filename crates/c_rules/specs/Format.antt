@@ -12,7 +12,7 @@ use Rattle.c_rules.specs.declared.format.Reading.{Reading}
 use Rattle.c_rules.specs.declared.format.Reading.TheVariants.{Gives, Moves, Wrong}
 use Rattle.c_rules.specs.Judged.{more}
 use Rattle.c_rules.specs.Types.{is_integer, integer_of, promoted, same_integer}
-use Rattle.c_rules.specs.Rules.{kind_of}
+use Rattle.c_rules.specs.Rules.{c_type_of}
 
 -- behind %: d, c, % or the l of ld
 abbrev pub read_behind : ℕ → Reading
@@ -56,7 +56,7 @@ computes_as kind t = is_integer t && same_integer kind (promoted (integer_of t))
 abbrev pub fit_one : Option IntegerType → List Found → (List Found → Bool) → Bool
 fit_one None vs rest = rest vs
 fit_one (Some kind) [] rest = false
-fit_one (Some kind) (v ∷ vs) rest = computes_as kind (kind_of v) && rest vs
+fit_one (Some kind) (v ∷ vs) rest = computes_as kind (c_type_of v) && rest vs
 
 abbrev pub fit : List Piece → List Found → Bool
 fit [] [] = true

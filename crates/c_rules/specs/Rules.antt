@@ -38,7 +38,7 @@ use Rattle.c_kernel.specs.declared.program.Way.TheVariants.{Forward, Back}
 use Rattle.c_kernel.specs.declared.program.Comparison.{Comparison}
 use Rattle.c_kernel.specs.declared.program.Comparison.TheVariants as compare
 use Rattle.c_kernel.specs.Extent.{extent}
-use Rattle.c_rules.specs.declared.fault.Fault.{Fault}
+use Rattle.c_rules.specs.declared.breach.Breach.{Breach}
 use Rattle.c_rules.specs.declared.found.Found.{Found}
 use Rattle.c_rules.specs.declared.found.Form.{Form}
 use Rattle.c_rules.specs.declared.found.Form.TheVariants as form
@@ -55,23 +55,23 @@ use Rattle.c_rules.specs.Types.{is_pointer, is_integer, is_scalar, is_struct, is
 
 -- an expression that is no place, and one that is
 abbrev pub plain : ℕ → CType → Expr → Found
-plain at kind e = record { at = at; form = form.Value kind e }
+plain at c_type e = record { at = at; form = form.Value c_type e }
 
 abbrev pub place : ℕ → ObjectType → Place Expr → Found
 place at kind p = record { at = at; form = form.Place kind p }
 
 -- the type of its value
-abbrev pub kind_in : Form → CType
-kind_in (form.Zero kind) = integer kind
-kind_in (form.Value kind e) = kind
-kind_in (form.Place kind p) = value_type kind
+abbrev pub c_type_in : Form → CType
+c_type_in (form.Zero kind) = integer kind
+c_type_in (form.Value c_type e) = c_type
+c_type_in (form.Place kind p) = value_type kind
 
-abbrev pub kind_of : Found → CType
-kind_of a = kind_in a.form
+abbrev pub c_type_of : Found → CType
+c_type_of a = c_type_in a.form
 
 abbrev pub is_zero_form : Form → Bool
 is_zero_form (form.Zero kind) = true
-is_zero_form (form.Value kind e) = false
+is_zero_form (form.Value c_type e) = false
 is_zero_form (form.Place kind p) = false
 
 abbrev pub is_zero : Found → Bool
@@ -89,20 +89,20 @@ abbrev pub element_place : ObjectType → Place Expr → Expr → Place Expr
 element_place kind p i = step_to p (selection.Element i (element kind).cells)
 
 -- what stands at a place; an array is a pointer to its first element
-abbrev pub value_at : ObjectType → Place Expr → Expr
-value_at kind p = if is_array kind then typed.Address (element_place kind p zero_number) else typed.Load p (scalar_of kind.element)
+abbrev pub value_of_place : ObjectType → Place Expr → Expr
+value_of_place kind p = if is_array kind then typed.Address (element_place kind p zero_number) else typed.Load p (scalar_of kind.element)
 
 abbrev pub value_in_form : Form → Expr
 value_in_form (form.Zero kind) = typed.Number (pos 0) kind
-value_in_form (form.Value kind e) = e
-value_in_form (form.Place kind p) = value_at kind p
+value_in_form (form.Value c_type e) = e
+value_in_form (form.Place kind p) = value_of_place kind p
 
 abbrev pub value : Found → Expr
 value a = value_in_form a.form
 
 -- its value in an integer type, where it is to be a pointer, and in a type
 abbrev pub value_in : IntegerType → Found → Expr
-value_in kind a = converted kind (integer_of (kind_of a)) (value a)
+value_in kind a = converted kind (integer_of (c_type_of a)) (value a)
 
 abbrev pub pointer_value : Found → Expr
 pointer_value a = if is_zero a then typed.Null else value a
@@ -111,16 +111,16 @@ abbrev pub value_as : CType → Found → Expr
 value_as t a = if is_pointer t then pointer_value a else value_in (integer_of t) a
 
 -- where a number or pointer is needed
-abbrev pub scalar_rules : ℕ → CType → List Fault
-scalar_rules at kind = breaks (not (is_scalar kind)) NotScalar at
+abbrev pub scalar_rules : ℕ → CType → List Breach
+scalar_rules at c_type = breaks (not (is_scalar c_type)) NotScalar at
 
 -- where a number is needed
-abbrev pub number_rules : ℕ → CType → List Fault
-number_rules at kind = scalar_rules at kind ++ breaks (not (is_integer kind)) NotInteger at
+abbrev pub number_rules : ℕ → CType → List Breach
+number_rules at c_type = scalar_rules at c_type ++ breaks (not (is_integer c_type)) NotInteger at
 
 -- where a pointer to something is needed
-abbrev pub pointer_rules : ℕ → CType → List Fault
-pointer_rules at kind = scalar_rules at kind ++ breaks (not (is_target kind)) NotPointer at
+abbrev pub pointer_rules : ℕ → CType → List Breach
+pointer_rules at c_type = scalar_rules at c_type ++ breaks (not (is_target c_type)) NotPointer at
 
 -- ---- which types go together (6.5.16.1)
 
@@ -133,8 +133,8 @@ abbrev pub clash : CType → Bool → CType → Bool
 clash t zero u = if is_pointer t then is_scalar u && not (zero || (is_pointer u && are_alike t u)) else is_integer t && is_pointer u
 
 -- a value where one of a type is needed
-abbrev pub value_rules : CType → Found → List Fault
-value_rules t a = scalar_rules a.at (kind_of a) ++ breaks (clash t (is_zero a) (kind_of a)) TypeMismatch a.at
+abbrev pub value_rules : CType → Found → List Breach
+value_rules t a = scalar_rules a.at (c_type_of a) ++ breaks (clash t (is_zero a) (c_type_of a)) TypeMismatch a.at
 
 -- two operands of which one is a pointer
 abbrev pub has_pointer : CType → CType → Bool
@@ -189,7 +189,7 @@ group at a = by [] (record a { at = at })
 -- what a pointer points to. One that stands at a place, or that the array there stands for, is followed from that place
 abbrev pub target_in : Form → Place Expr
 target_in (form.Zero kind) = record { root = root.Target (typed.Number (pos 0) kind); steps = [] }
-target_in (form.Value kind e) = record { root = root.Target e; steps = [] }
+target_in (form.Value c_type e) = record { root = root.Target e; steps = [] }
 target_in (form.Place kind p) = if is_array kind then step_to (element_place kind p zero_number) selection.Checked else step_to p selection.Follow
 
 abbrev pub target_place : Found → Place Expr
@@ -199,25 +199,25 @@ target_place a = target_in a.form
 abbrev pub array_place : Found → Option (ObjectType × Place Expr)
 array_place a = elim a.form [
   | form.Zero kind ↦ None
-  | form.Value kind e ↦ None
+  | form.Value c_type e ↦ None
   | form.Place kind p ↦ if is_array kind then Some (kind, p) else None
 ]
 
 abbrev pub is_array_found : Found → Bool
 is_array_found a = not (is_none (array_place a))
 
-abbrev pub base_rules : Found → List Fault
-base_rules a = if is_array_found a then [] else pointer_rules a.at (kind_of a)
+abbrev pub base_rules : Found → List Breach
+base_rules a = if is_array_found a then [] else pointer_rules a.at (c_type_of a)
 
 -- an element of an array, and of the objects from where a pointer points on
 abbrev pub element_found : List Structure → Found → Expr → Found
 element_found structs a i = elim (array_place a) [
   | Some x ↦ place a.at (element x.0) (element_place x.0 x.1 i)
-  | None ↦ place a.at (one_object structs (target (kind_of a))) (step_to (target_place a) (selection.Element i (element_cells structs (target (kind_of a)))))
+  | None ↦ place a.at (one_object structs (target (c_type_of a))) (step_to (target_place a) (selection.Element i (element_cells structs (target (c_type_of a)))))
 ]
 
 unfoldable pub index : List Structure → Found → Found → Judged Found
-index structs a i = by (base_rules a ++ number_rules i.at (kind_of i)) (element_found structs a (value i))
+index structs a i = by (base_rules a ++ number_rules i.at (c_type_of i)) (element_found structs a (value i))
 
 -- the struct of a type, with its members
 abbrev pub members_of : List Structure → Base → Option (ℕ × List Member)
@@ -241,7 +241,7 @@ selected structs at t p n = elim (member_in structs t (member_bytes n)) [
 abbrev pub struct_place : Found → Option (CType × Place Expr)
 struct_place a = elim a.form [
   | form.Zero kind ↦ None
-  | form.Value kind e ↦ None
+  | form.Value c_type e ↦ None
   | form.Place kind p ↦ if not (is_array kind) && is_struct kind.element then Some (kind.element, p) else None
 ]
 
@@ -251,11 +251,11 @@ dot structs a n = elim (struct_place a) [
   | Some x ↦ selected structs a.at x.0 x.1 n
 ]
 
-abbrev pub arrow_rules : Found → List Fault
-arrow_rules a = pointer_rules a.at (kind_of a) ++ breaks (is_target (kind_of a) && not (is_struct (target (kind_of a)))) NotStruct a.at
+abbrev pub arrow_rules : Found → List Breach
+arrow_rules a = pointer_rules a.at (c_type_of a) ++ breaks (is_target (c_type_of a) && not (is_struct (target (c_type_of a)))) NotStruct a.at
 
 unfoldable pub arrow : List Structure → Found → MemberName → Judged Found
-arrow structs a n = of_part (by (arrow_rules a) (target_place a)) (λ p. selected structs a.at (target (kind_of a)) p n)
+arrow structs a n = of_part (by (arrow_rules a) (target_place a)) (λ p. selected structs a.at (target (c_type_of a)) p n)
 
 abbrev pub member : List Structure → Access → Found → MemberName → Judged Found
 member structs access.Dot a n = dot structs a n
@@ -265,19 +265,19 @@ member structs access.Arrow a n = arrow structs a n
 
 unfoldable pub unary : UnaryOperator → ℕ → Found → Judged Found
 unary o at a =
-    let kind = promoted (integer_of (kind_of a)) in
-    by (number_rules a.at (kind_of a)) (plain at (integer kind) (typed.Unary o kind (value_in kind a)))
+    let kind = promoted (integer_of (c_type_of a)) in
+    by (number_rules a.at (c_type_of a)) (plain at (integer kind) (typed.Unary o kind (value_in kind a)))
 
 unfoldable pub negation : ℕ → Found → Judged Found
-negation at a = by (scalar_rules a.at (kind_of a)) (plain at (integer Int) (typed.Not (value a)))
+negation at a = by (scalar_rules a.at (c_type_of a)) (plain at (integer Int) (typed.Not (value a)))
 
 unfoldable pub dereference : List Structure → ℕ → Found → Judged Found
-dereference structs at a = by (pointer_rules a.at (kind_of a)) (place at (one_object structs (target (kind_of a))) (target_place a))
+dereference structs at a = by (pointer_rules a.at (c_type_of a)) (place at (one_object structs (target (c_type_of a))) (target_place a))
 
 -- & of a place that is no array
 abbrev pub addressed : ℕ → ℕ → Form → Judged Found
 addressed at operand (form.Zero kind) = refused NotPlace operand
-addressed at operand (form.Value kind e) = refused NotPlace operand
+addressed at operand (form.Value c_type e) = refused NotPlace operand
 addressed at operand (form.Place kind p) = by (breaks (is_array kind) NotPlace operand) (plain at (pointer_to kind.element) (typed.Address p))
 
 unfoldable pub address : ℕ → Found → Judged Found
@@ -293,27 +293,27 @@ prefix structs at operator.Star a = given a (dereference structs at)
 prefix structs at operator.And a = given a (address at)
 prefix structs at _ a = refused NotYet 0
 
-abbrev pub cast_rules : ℕ → CType → Found → List Fault
-cast_rules at kind a =
-    scalar_rules at (kind_of a)
-    ++ breaks (not (is_integer kind)) TypeMismatch at
-    ++ breaks (not (is_integer (kind_of a))) TypeMismatch at
+abbrev pub cast_rules : ℕ → CType → Found → List Breach
+cast_rules at c_type a =
+    scalar_rules at (c_type_of a)
+    ++ breaks (not (is_integer c_type)) TypeMismatch at
+    ++ breaks (not (is_integer (c_type_of a))) TypeMismatch at
 
 unfoldable pub cast : ℕ → CType → Found → Judged Found
-cast at kind a = by (cast_rules at kind a) (plain at kind (value_in (integer_of kind) a))
+cast at c_type a = by (cast_rules at c_type a) (plain at c_type (value_in (integer_of c_type) a))
 
 unfoldable pub size_of : List Structure → ℕ → CType → Judged Found
-size_of structs at kind = by (breaks (is_incomplete structs kind) IncompleteType at) (constant at (pos (extent structs kind).size) Long)
+size_of structs at c_type = by (breaks (is_incomplete structs c_type) IncompleteType at) (constant at (pos (extent structs c_type).size) Long)
 
 -- ---- two operands, grouped from the left (6.5.5 to 6.5.14)
 
 -- a chain that begins with a value
 abbrev pub begin : Found → Run
-begin a = record { at = a.at; kind = kind_of a; zero = is_zero a; first = value a; rest = [] }
+begin a = record { at = a.at; c_type = c_type_of a; zero = is_zero a; first = value a; rest = [] }
 
 -- with one operator more
 abbrev pub extended : Run → CType → Link Expr → Run
-extended a kind link = record { at = a.at; kind = kind; zero = false; first = a.first; rest = a.rest ++ link ∷ [] }
+extended a c_type link = record { at = a.at; c_type = c_type; zero = false; first = a.first; rest = a.rest ++ link ∷ [] }
 
 -- the literal 0 as a pointer
 abbrev pub as_pointer : Run → Run
@@ -323,21 +323,21 @@ as_pointer a = if a.zero then record a { first = typed.Null } else a
 abbrev pub closed : Run → Expr
 closed a = typed.Chain a.first a.rest
 
-abbrev pub numbers_rules : Run → Found → List Fault
-numbers_rules a b = number_rules a.at a.kind ++ number_rules b.at (kind_of b)
+abbrev pub numbers_rules : Run → Found → List Breach
+numbers_rules a b = number_rules a.at a.c_type ++ number_rules b.at (c_type_of b)
 
-abbrev pub scalars_rules : Run → Found → List Fault
-scalars_rules a b = scalar_rules a.at a.kind ++ scalar_rules b.at (kind_of b)
+abbrev pub scalars_rules : Run → Found → List Breach
+scalars_rules a b = scalar_rules a.at a.c_type ++ scalar_rules b.at (c_type_of b)
 
-abbrev pub mismatch : Run → Found → List Fault
-mismatch a b = breaks (has_pointer a.kind (kind_of b) && operands_clash a.zero a.kind (is_zero b) (kind_of b)) TypeMismatch a.at
+abbrev pub mismatch : Run → Found → List Breach
+mismatch a b = breaks (has_pointer a.c_type (c_type_of b) && operands_clash a.zero a.c_type (is_zero b) (c_type_of b)) TypeMismatch a.at
 
 -- of two numbers, in the type at which they meet
 abbrev pub computed : Arithmetic → Run → Found → Run
 computed o a b =
-    let kind = common (integer_of a.kind) (integer_of (kind_of b)) in
+    let kind = common (integer_of a.c_type) (integer_of (c_type_of b)) in
     extended a (integer kind) (record {
-      conversion = change kind (integer_of a.kind);
+      conversion = change kind (integer_of a.c_type);
       operator = binary.Arithmetic o kind;
       operand = value_in kind b;
     })
@@ -347,9 +347,9 @@ arithmetic o a b = by (numbers_rules a b) (computed o a b)
 
 -- a pointer and a number of elements (6.5.6)
 abbrev pub advanced : List Structure → Way → Run → Found → Run
-advanced structs way a b = extended a a.kind (record {
+advanced structs way a b = extended a a.c_type (record {
   conversion = None;
-  operator = binary.Advance way (element_cells structs (target a.kind));
+  operator = binary.Advance way (element_cells structs (target a.c_type));
   operand = value b;
 })
 
@@ -357,39 +357,39 @@ advanced structs way a b = extended a a.kind (record {
 abbrev pub between : List Structure → Run → Found → Run
 between structs a b = extended (as_pointer a) (integer Long) (record {
   conversion = None;
-  operator = binary.Distance (element_cells structs (target (met a.kind (kind_of b))));
+  operator = binary.Distance (element_cells structs (target (met a.c_type (c_type_of b))));
   operand = pointer_value b;
 })
 
-abbrev pub sum_rules : Run → Found → List Fault
-sum_rules a b = if is_target a.kind then number_rules b.at (kind_of b) else numbers_rules a b
+abbrev pub sum_rules : Run → Found → List Breach
+sum_rules a b = if is_target a.c_type then number_rules b.at (c_type_of b) else numbers_rules a b
 
 unfoldable pub plus : List Structure → Run → Found → Judged Run
-plus structs a b = by (sum_rules a b) (if is_target a.kind then advanced structs Forward a b else computed arithmetic_operator.Add a b)
+plus structs a b = by (sum_rules a b) (if is_target a.c_type then advanced structs Forward a b else computed arithmetic_operator.Add a b)
 
-abbrev pub minus_rules : Run → Found → List Fault
-minus_rules a b = if is_pointer (kind_of b) then scalar_rules a.at a.kind ++ mismatch a b else sum_rules a b
+abbrev pub minus_rules : Run → Found → List Breach
+minus_rules a b = if is_pointer (c_type_of b) then scalar_rules a.at a.c_type ++ mismatch a b else sum_rules a b
 
 abbrev pub less : List Structure → Run → Found → Run
-less structs a b = if is_target a.kind then advanced structs Back a b else computed arithmetic_operator.Subtract a b
+less structs a b = if is_target a.c_type then advanced structs Back a b else computed arithmetic_operator.Subtract a b
 
 unfoldable pub minus : List Structure → Run → Found → Judged Run
-minus structs a b = by (minus_rules a b) (if is_pointer (kind_of b) then between structs a b else less structs a b)
+minus structs a b = by (minus_rules a b) (if is_pointer (c_type_of b) then between structs a b else less structs a b)
 
 unfoldable pub shift : Direction → Run → Found → Judged Run
 shift d a b =
-    let kind = promoted (integer_of a.kind) in
+    let kind = promoted (integer_of a.c_type) in
     by (numbers_rules a b) (extended a (integer kind) (record {
-      conversion = change kind (integer_of a.kind);
+      conversion = change kind (integer_of a.c_type);
       operator = binary.Shift d kind;
       operand = value b;
     }))
 
 abbrev pub compared_numbers : Comparison → Run → Found → Run
 compared_numbers o a b =
-    let kind = common (integer_of a.kind) (integer_of (kind_of b)) in
+    let kind = common (integer_of a.c_type) (integer_of (c_type_of b)) in
     extended a (integer Int) (record {
-      conversion = change kind (integer_of a.kind);
+      conversion = change kind (integer_of a.c_type);
       operator = binary.Comparison o;
       operand = value_in kind b;
     })
@@ -402,7 +402,7 @@ compared_pointers o a b = extended (as_pointer a) (integer Int) (record {
 })
 
 unfoldable pub comparison : Comparison → Run → Found → Judged Run
-comparison o a b = by (scalars_rules a b ++ mismatch a b) (if has_pointer a.kind (kind_of b) then compared_pointers o a b else compared_numbers o a b)
+comparison o a b = by (scalars_rules a b ++ mismatch a b) (if has_pointer a.c_type (c_type_of b) then compared_pointers o a b else compared_numbers o a b)
 
 unfoldable pub logical : BinaryOperator → Run → Found → Judged Run
 logical o a b = by (scalars_rules a b) (extended a (integer Int) (record { conversion = None; operator = o; operand = value b }))
@@ -432,10 +432,10 @@ link structs operator.Tilde = λ a b. refused NotYet 0
 
 -- ---- test ? then : otherwise (6.5.15)
 
-abbrev pub choice_rules : Found → Found → Found → List Fault
+abbrev pub choice_rules : Found → Found → Found → List Breach
 choice_rules c a b =
-    scalar_rules c.at (kind_of c) ++ scalar_rules a.at (kind_of a) ++ scalar_rules b.at (kind_of b)
-    ++ breaks (has_pointer (kind_of a) (kind_of b) && operands_clash (is_zero a) (kind_of a) (is_zero b) (kind_of b)) TypeMismatch c.at
+    scalar_rules c.at (c_type_of c) ++ scalar_rules a.at (c_type_of a) ++ scalar_rules b.at (c_type_of b)
+    ++ breaks (has_pointer (c_type_of a) (c_type_of b) && operands_clash (is_zero a) (c_type_of a) (is_zero b) (c_type_of b)) TypeMismatch c.at
 
 abbrev pub chosen : ℕ → CType → Found → Found → Found → Found
 chosen at t c a b = plain at t (typed.Choice (value c) (value_as t a) (value_as t b))
@@ -444,7 +444,7 @@ abbrev pub choice_type : CType → CType → CType
 choice_type t u = if has_pointer t u then met t u else integer (common (integer_of t) (integer_of u))
 
 unfoldable pub choice : Found → Found → Found → Judged Found
-choice c a b = by (choice_rules c a b) (chosen c.at (choice_type (kind_of a) (kind_of b)) c a b)
+choice c a b = by (choice_rules c a b) (chosen c.at (choice_type (c_type_of a) (c_type_of b)) c a b)
 
 -- ---- calls (6.5.2.2)
 
@@ -453,10 +453,10 @@ abbrev pub main_name : Bytes
 main_name = 109 ∷ 97 ∷ 105 ∷ 110 ∷ []
 
 -- each argument where one of its parameter's type is needed; those that are too many have none
-abbrev pub argument_rules : List CType → List Found → List Fault
+abbrev pub argument_rules : List CType → List Found → List Breach
 argument_rules ts [] = []
 argument_rules (t ∷ ts) (v ∷ vs) = value_rules t v ++ argument_rules ts vs
-argument_rules [] (v ∷ vs) = scalar_rules v.at (kind_of v) ++ argument_rules [] vs
+argument_rules [] (v ∷ vs) = scalar_rules v.at (c_type_of v) ++ argument_rules [] vs
 
 -- each argument in its parameter's type
 abbrev pub passed : List CType → List Found → List Expr
@@ -464,10 +464,10 @@ passed (t ∷ ts) (v ∷ vs) = value_as t v ∷ passed ts vs
 passed _ _ = []
 
 -- nothing is said of values against a header that breaks a rule
-abbrev pub header_rules : ℕ → Signature → List Found → List Fault
+abbrev pub header_rules : ℕ → Signature → List Found → List Breach
 header_rules at f vs = if f.sound then breaks (not (length f.parameters == length vs)) ArgumentCount at ++ argument_rules f.parameters vs else []
 
-abbrev pub call_rules : Bool → ℕ → Signature → List Found → List Fault
+abbrev pub call_rules : Bool → ℕ → Signature → List Found → List Breach
 call_rules main at f vs =
     breaks main BadMain at
     ++ breaks (is_none f.number) Undefined at
@@ -477,7 +477,7 @@ call_rules main at f vs =
 unfoldable pub call : Bool → ℕ → ℕ → Signature → List Found → Judged Invocation
 call main at called f vs = of_part (by (call_rules main called f vs) (record {
   at = at;
-  kind = f.result;
+  c_type = f.result;
   function = unwrap_or f.number 0;
   arguments = passed f.parameters vs;
 })) (λ c. if f.sound then by [] c else silent)

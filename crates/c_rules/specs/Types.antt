@@ -21,7 +21,7 @@ use Rattle.c_kernel.specs.declared.program.Scalar.TheVariants as scalar
 use Rattle.c_kernel.specs.declared.program.Expr.{Expr}
 use Rattle.c_kernel.specs.declared.program.Expr.TheVariants as typed
 use Rattle.c_kernel.specs.Extent.{extent}
-use Rattle.c_rules.specs.declared.fault.Fault.{Fault}
+use Rattle.c_rules.specs.declared.breach.Breach.{Breach}
 use Rattle.c_rules.specs.Judged.{breaks}
 use Rattle.c_rules.specs.Scope.{Bytes}
 
@@ -65,14 +65,14 @@ base_of structs own (specifier.Struct at name) = struct_base (known_number struc
 abbrev pub type_of : List Structure → Option Bytes → TypeSpecifier → ℕ → CType
 type_of structs own t stars = record { base = base_of structs own t; stars = stars }
 
-abbrev pub specifier_rules : List Structure → Option Bytes → TypeSpecifier → List Fault
+abbrev pub specifier_rules : List Structure → Option Bytes → TypeSpecifier → List Breach
 specifier_rules structs own (specifier.Plain at word) = []
 specifier_rules structs own (specifier.Struct at name) = breaks (is_none (known_number structs own name.bytes)) UnknownName name.at
 
 -- the specifier's first byte
-abbrev pub place_of : TypeSpecifier → ℕ
-place_of (specifier.Plain at word) = at
-place_of (specifier.Struct at name) = at
+abbrev pub specifier_at : TypeSpecifier → ℕ
+specifier_at (specifier.Plain at word) = at
+specifier_at (specifier.Struct at name) = at
 
 -- ---- kinds of types (6.2.5)
 

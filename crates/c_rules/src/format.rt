@@ -4,7 +4,7 @@ ghost use Rattle.std.specs.Prelude.{◌≡◌, IfOk};
 ghost use Rattle.c_rules.specs.Format as formats;
 
 use crate::found::Found;
-use crate::rules::kind_of;
+use crate::rules::c_type_of;
 use crate::types::{integer_of, is_integer, promoted, same_integer};
 use c_kernel::program::Piece;
 use c_kernel::{CType, IntegerType};
@@ -116,7 +116,7 @@ pub fn fit(pieces: &[Piece], values: &[Boxed<Found>]) -> bool
             Some(kind) => match rest {
                 [] => return false,
                 [value, more @ ..] => {
-                    if !computes_as(kind, kind_of(value.get())) {
+                    if !computes_as(kind, c_type_of(value.get())) {
                         return false;
                     }
                     rest = more;

@@ -17,7 +17,7 @@ pub enum Form {
     /// The literal 0 of the type, which is a null pointer too (C99 6.3.2.3).
     Zero(IntegerType),
     Value {
-        kind: CType,
+        c_type: CType,
         term: Boxed<Expr>,
     },
     /// A place, with the type of what stands there.
@@ -31,7 +31,7 @@ pub enum Form {
 #[derive(Drop)]
 pub struct Run {
     pub at: u32,
-    pub kind: CType,
+    pub c_type: CType,
     pub zero: bool,
     pub first: Boxed<Expr>,
     pub rest: Items<Link<Expr>>,
@@ -49,12 +49,12 @@ pub enum Right {
 #[derive(Drop)]
 pub struct Invocation {
     pub at: u32,
-    pub kind: CType,
+    pub c_type: CType,
     pub function: usize,
     pub arguments: Items<Expr>,
 }
 
-/// A `malloc` at this place, perhaps with a cast before it.
+/// A `malloc` with its first byte, perhaps with a cast before it.
 #[derive(Drop)]
 pub struct Allocation {
     pub at: u32,
@@ -62,9 +62,9 @@ pub struct Allocation {
     pub bytes: Boxed<Found>,
 }
 
-/// A cast at this place, to the type.
+/// A cast with its first byte, to the type.
 #[derive(Clone, Copy)]
 pub struct Cast {
     pub at: u32,
-    pub kind: CType,
+    pub c_type: CType,
 }

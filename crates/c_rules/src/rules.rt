@@ -10,10 +10,10 @@ ghost use Rattle.std.specs.Prelude.{◌≡◌, IfOk, OnOk, unwrap_or};
 ghost use Rattle.c_rules.specs.Judged.{Notes};
 ghost use Rattle.c_rules.specs.Rules as rules;
 
-use crate::fault::{Fault, rule};
+use crate::breach::{Breach, rule};
 use crate::found::{Found, Invocation};
 use crate::rules::chains::operands_clash;
-use crate::signature::Signature;
+use crate::signature::{Callee, Signature};
 use crate::types::{common, integer, integer_of, is_pointer, is_target};
 use c_kernel::CType;
 use c_kernel::program::Expr;
@@ -25,7 +25,7 @@ pub use selections::{arrow, dot, index, is_named, member_at};
 use sqlite_items::{Boxed, Items};
 use std::alloc::{AllocError, Global};
 pub use values::{
-    clash, constant, is_zero, kind_of, literal, note_pointer, note_value, null, number, place,
+    c_type_of, clash, constant, is_zero, literal, note_pointer, note_value, null, number, place,
     plain, scalar, value, value_as, variable,
 };
 
@@ -57,30 +57,35 @@ fn choice_type(t: CType, u: CType) -> CType
 }
 
 #[tactic(auto, using(std::proofs::Common::append_assoc))]
-fn note_choice(faults: &mut Vec<Fault>, c: &Found, a: &Found, b: &Found) -> Result<(), AllocError>
-    ensures { OnOk result (Notes faults.old faults.new (rules.choice_rules c.now a.now b.now)) }
+fn note_choice(
+    breaches: &mut Vec<Breach>,
+    c: &Found,
+    a: &Found,
+    b: &Found,
+) -> Result<(), AllocError>
+    ensures { OnOk result (Notes breaches.old breaches.new (rules.choice_rules c.now a.now b.now)) }
 {
-    scalar(faults, c.at, kind_of(c))?;
-    scalar(faults, a.at, kind_of(a))?;
-    scalar(faults, b.at, kind_of(b))?;
-    let clash = has_pointer(kind_of(a), kind_of(b))
-        && operands_clash(is_zero(a), kind_of(a), is_zero(b), kind_of(b));
-    rule(faults, clash, Kind::TypeMismatch, c.at)
+    scalar(breaches, c.at, c_type_of(c))?;
+    scalar(breaches, a.at, c_type_of(a))?;
+    scalar(breaches, b.at, c_type_of(b))?;
+    let clash = has_pointer(c_type_of(a), c_type_of(b))
+        && operands_clash(is_zero(a), c_type_of(a), is_zero(b), c_type_of(b));
+    rule(breaches, clash, Kind::TypeMismatch, c.at)
 }
 
 fn chosen(
     alloc: Global,
-    kind: CType,
+    c_type: CType,
     c: Boxed<Found>,
     a: Boxed<Found>,
     b: Boxed<Found>,
 ) -> Result<Boxed<Found>, AllocError>
-    ensures { IfOk result (λ found. found ≡ rules.chosen c.at kind c a b) }
+    ensures { IfOk result (λ found. found ≡ rules.chosen c.at c_type c a b) }
 {
     let at = c.get().at;
     let test = value(alloc, c)?;
-    let then = value_as(alloc, kind, a)?;
-    let otherwise = value_as(alloc, kind, b)?;
+    let then = value_as(alloc, c_type, a)?;
+    let otherwise = value_as(alloc, c_type, b)?;
     let term = Boxed::new(
         alloc,
         Expr::Choice {
@@ -89,48 +94,48 @@ fn chosen(
             otherwise,
         },
     )?;
-    plain(alloc, at, kind, term)
+    plain(alloc, at, c_type, term)
 }
 
 /// `test ? then : otherwise`.
 #[tactic(auto, unfolding(crate::specs::Rules::choice))]
 pub fn choice(
     alloc: Global,
-    faults: &mut Vec<Fault>,
+    breaches: &mut Vec<Breach>,
     c: Boxed<Found>,
     a: Boxed<Found>,
     b: Boxed<Found>,
 ) -> Result<Option<Boxed<Found>>, AllocError>
     ensures found { IfOk result (λ found. found ≡ (rules.choice c a b).found) }
-    ensures faults { OnOk result (Notes faults.old faults.new (rules.choice c a b).faults) }
+    ensures breaches { OnOk result (Notes breaches.old breaches.new (rules.choice c a b).breaches) }
 {
-    let before = faults.len();
-    note_choice(faults, c.get(), a.get(), b.get())?;
-    if faults.len() > before {
+    let before = breaches.len();
+    note_choice(breaches, c.get(), a.get(), b.get())?;
+    if breaches.len() > before {
         return Ok(None);
     }
-    let kind = choice_type(kind_of(a.get()), kind_of(b.get()));
-    chosen(alloc, kind, c, a, b).map(Some)
+    let c_type = choice_type(c_type_of(a.get()), c_type_of(b.get()));
+    chosen(alloc, c_type, c, a, b).map(Some)
 }
 
 // ---- calls
 
 // The rules of the values of a call.
 fn note_arguments(
-    faults: &mut Vec<Fault>,
-    kinds: &[CType],
+    breaches: &mut Vec<Breach>,
+    c_types: &[CType],
     values: &[Boxed<Found>],
 ) -> Result<(), AllocError>
-    ensures { OnOk result (Notes faults.old faults.new (rules.argument_rules kinds.now values.now)) }
+    ensures { OnOk result (Notes breaches.old breaches.new (rules.argument_rules c_types.now values.now)) }
 {
-    let mut kinds = kinds;
+    let mut c_types = c_types;
     for v in values {
         let v = v.get();
-        match kinds {
-            [] => scalar(faults, v.at, kind_of(v))?,
-            [kind, more @ ..] => {
-                note_value(faults, *kind, v)?;
-                kinds = more;
+        match c_types {
+            [] => scalar(breaches, v.at, c_type_of(v))?,
+            [c_type, more @ ..] => {
+                note_value(breaches, *c_type, v)?;
+                c_types = more;
             }
         }
     }
@@ -140,19 +145,19 @@ fn note_arguments(
 // The values as they are passed.
 fn passed(
     alloc: Global,
-    kinds: &[CType],
+    c_types: &[CType],
     values: Items<Boxed<Found>>,
 ) -> Result<Items<Expr>, AllocError>
-    ensures { IfOk result (λ terms. terms ≡ rules.passed kinds.now values) }
+    ensures { IfOk result (λ terms. terms ≡ rules.passed c_types.now values) }
 {
     let mut values = values;
     let mut terms = Items::new(alloc);
-    for kind in kinds {
+    for c_type in c_types {
         if values.len() == 0 {
             return Ok(terms);
         }
         let v = values.remove(0);
-        terms.push(value_as(alloc, *kind, v)?.into_inner())?;
+        terms.push(value_as(alloc, *c_type, v)?.into_inner())?;
     }
     Ok(terms)
 }
@@ -160,53 +165,51 @@ fn passed(
 // The values of a call against the header.
 #[tactic(auto, using(std::proofs::Common::append_assoc))]
 fn note_header(
-    faults: &mut Vec<Fault>,
+    breaches: &mut Vec<Breach>,
     at: u32,
     f: &Signature,
     values: &[Boxed<Found>],
 ) -> Result<(), AllocError>
-    ensures { OnOk result (Notes faults.old faults.new (rules.header_rules at f.now values.now)) }
+    ensures { OnOk result (Notes breaches.old breaches.new (rules.header_rules at f.now values.now)) }
 {
     if !f.sound {
         return Ok(());
     }
     let other = f.parameters.len() != values.len();
-    rule(faults, other, Kind::ArgumentCount, at)?;
-    note_arguments(faults, f.parameters.as_slice(), values)
+    rule(breaches, other, Kind::ArgumentCount, at)?;
+    note_arguments(breaches, f.parameters.as_slice(), values)
 }
 
 #[tactic(auto, using(std::proofs::Common::append_assoc))]
 fn note_call(
-    faults: &mut Vec<Fault>,
-    main: bool,
-    at: u32,
-    f: &Signature,
+    breaches: &mut Vec<Breach>,
+    callee: Callee<'_>,
     values: &[Boxed<Found>],
 ) -> Result<(), AllocError>
-    ensures { OnOk result (Notes faults.old faults.new (rules.call_rules main at f.now values.now)) }
+    ensures { OnOk result (Notes breaches.old breaches.new (rules.call_rules callee.entry.main callee.entry.at callee.entry.signature.now values.now)) }
 {
-    rule(faults, main, Kind::BadMain, at)?;
-    rule(faults, f.number.is_none(), Kind::Undefined, at)?;
-    note_header(faults, at, f, values)
+    let f = callee.signature;
+    rule(breaches, callee.main, Kind::BadMain, callee.at)?;
+    rule(breaches, f.number.is_none(), Kind::Undefined, callee.at)?;
+    note_header(breaches, callee.at, f, values)
 }
 
-/// A call of the function with the name at `called`.
+/// A call.
 #[tactic(auto, using(std::proofs::Common::append_assoc), unfolding(crate::specs::Rules::call))]
 pub fn call(
     alloc: Global,
-    faults: &mut Vec<Fault>,
-    main: bool,
+    breaches: &mut Vec<Breach>,
     at: u32,
-    called: u32,
-    f: &Signature,
+    callee: Callee<'_>,
     values: Items<Boxed<Found>>,
 ) -> Result<Option<Invocation>, AllocError>
-    ensures found { IfOk result (λ found. found ≡ (rules.call main at called f.now values).found) }
-    ensures faults { OnOk result (Notes faults.old faults.new (rules.call main at called f.now values).faults) }
+    ensures found { IfOk result (λ found. found ≡ (rules.call callee.entry.main at callee.entry.at callee.entry.signature.now values).found) }
+    ensures breaches { OnOk result (Notes breaches.old breaches.new (rules.call callee.entry.main at callee.entry.at callee.entry.signature.now values).breaches) }
 {
-    let before = faults.len();
-    note_call(faults, main, called, f, values.as_slice())?;
-    if faults.len() > before {
+    let f = callee.signature;
+    let before = breaches.len();
+    note_call(breaches, callee, values.as_slice())?;
+    if breaches.len() > before {
         return Ok(None);
     }
     if !f.sound {
@@ -221,29 +224,27 @@ fn invocation(
     f: &Signature,
     values: Items<Boxed<Found>>,
 ) -> Result<Invocation, AllocError>
-    ensures { IfOk result (λ call. call ≡ record { at = at; kind = f.now.result; function = unwrap_or f.now.number 0; arguments = rules.passed f.now.parameters values }) }
+    ensures { IfOk result (λ call. call ≡ record { at = at; c_type = f.now.result; function = unwrap_or f.now.number 0; arguments = rules.passed f.now.parameters values }) }
 {
     Ok(Invocation {
         at,
-        kind: f.result,
+        c_type: f.result,
         function: f.number.unwrap_or(0),
         arguments: passed(alloc, f.parameters.as_slice(), values)?,
     })
 }
 
-/// A call that is a part of an expression, of the function with the name at this place.
+/// A call that is a part of an expression.
 #[tactic(auto, using(std::proofs::Common::append_assoc), unfolding(crate::specs::Rules::misplaced))]
 pub fn misplaced_call(
-    faults: &mut Vec<Fault>,
-    main: bool,
-    at: u32,
-    f: &Signature,
+    breaches: &mut Vec<Breach>,
+    callee: Callee<'_>,
     values: &[Boxed<Found>],
 ) -> Result<Option<Boxed<Found>>, AllocError>
-    ensures found { IfOk result (λ found. found ≡ (rules.misplaced main at f.now values.now).found) }
-    ensures faults { OnOk result (Notes faults.old faults.new (rules.misplaced main at f.now values.now).faults) }
+    ensures found { IfOk result (λ found. found ≡ (rules.misplaced callee.entry.main callee.entry.at callee.entry.signature.now values.now).found) }
+    ensures breaches { OnOk result (Notes breaches.old breaches.new (rules.misplaced callee.entry.main callee.entry.at callee.entry.signature.now values.now).breaches) }
 {
-    note_call(faults, main, at, f, values)?;
-    rule(faults, true, Kind::CallPlace, at)?;
+    note_call(breaches, callee, values)?;
+    rule(breaches, true, Kind::CallPlace, callee.at)?;
     Ok(None)
 }

@@ -17,6 +17,14 @@ pub struct Signature {
     pub number: Option<usize>,
 }
 
+/// A function and the name that it is called by: the name's first byte, and whether it is `main`.
+#[derive(Clone, Copy)]
+pub struct Callee<'f> {
+    pub at: u32,
+    pub main: bool,
+    pub signature: &'f Signature,
+}
+
 /// The function of a name in a table.
 pub fn function<'f>(
     functions: &'f IndexMap<Vec<u8>, Signature>,

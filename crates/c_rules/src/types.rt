@@ -5,7 +5,7 @@ ghost use Rattle.std.specs.Option.{option_copied};
 ghost use Rattle.c_rules.specs.Judged.{Notes};
 ghost use Rattle.c_rules.specs.Types as types;
 
-use crate::fault::{Fault, rule};
+use crate::breach::{Breach, rule};
 use c_kernel::program::{Expr, Scalar};
 use c_kernel::{Base, CType, Extent, IntegerType, Member, ObjectType, Struct, extent_of};
 use c_tree::Kind;
@@ -19,9 +19,9 @@ use std::alloc::{AllocError, Global};
 pub fn number_of(structs: &[Struct], name: &[u8]) -> Option<usize>
     ensures { result ≡ types.number_of structs.now name.now }
 {
-    for (at, found) in structs.iter().enumerate() {
+    for (number, found) in structs.iter().enumerate() {
         if found.name.as_slice() == name {
-            return Some(at);
+            return Some(number);
         }
     }
     None
@@ -89,25 +89,25 @@ pub fn type_of(
 
 /// The rules of a specifier.
 pub fn note_specifier(
-    faults: &mut Vec<Fault>,
+    breaches: &mut Vec<Breach>,
     structs: &[Struct],
     own: Option<&[u8]>,
     specifier: &TypeSpecifier,
 ) -> Result<(), AllocError>
-    ensures { OnOk result (Notes faults.old faults.new (types.specifier_rules structs.now (option_copied own.entry) specifier.now)) }
+    ensures { OnOk result (Notes breaches.old breaches.new (types.specifier_rules structs.now (option_copied own.entry) specifier.now)) }
 {
     match specifier {
         TypeSpecifier::Plain { .. } => Ok(()),
         TypeSpecifier::Struct { name, .. } => {
             let known = known_number(structs, own, name.bytes.as_slice());
-            rule(faults, known.is_none(), Kind::UnknownName, name.at)
+            rule(breaches, known.is_none(), Kind::UnknownName, name.at)
         }
     }
 }
 
 /// The specifier's first byte.
-pub fn place_of(specifier: &TypeSpecifier) -> u32
-    ensures { result ≡ types.place_of specifier.now }
+pub fn specifier_at(specifier: &TypeSpecifier) -> u32
+    ensures { result ≡ types.specifier_at specifier.now }
 {
     match specifier {
         TypeSpecifier::Plain { at, .. } => *at,
@@ -144,69 +144,69 @@ fn is_struct_base(base: Base) -> bool
     }
 }
 
-pub fn is_pointer(kind: CType) -> bool
-    ensures { result ≡ types.is_pointer kind }
+pub fn is_pointer(c_type: CType) -> bool
+    ensures { result ≡ types.is_pointer c_type }
 {
-    kind.stars > 0
+    c_type.stars > 0
 }
 
 /// Whether its values are numbers.
-pub fn is_integer(kind: CType) -> bool
-    ensures { result ≡ types.is_integer kind }
+pub fn is_integer(c_type: CType) -> bool
+    ensures { result ≡ types.is_integer c_type }
 {
-    !is_pointer(kind) && is_number(kind.base)
+    !is_pointer(c_type) && is_number(c_type.base)
 }
 
 /// Whether its values are numbers or pointers (C99 6.2.5).
-pub fn is_scalar(kind: CType) -> bool
-    ensures { result ≡ types.is_scalar kind }
+pub fn is_scalar(c_type: CType) -> bool
+    ensures { result ≡ types.is_scalar c_type }
 {
-    is_pointer(kind) || is_number(kind.base)
+    is_pointer(c_type) || is_number(c_type.base)
 }
 
-pub fn is_void(kind: CType) -> bool
-    ensures { result ≡ types.is_void kind }
+pub fn is_void(c_type: CType) -> bool
+    ensures { result ≡ types.is_void c_type }
 {
-    !is_pointer(kind) && is_void_base(kind.base)
+    !is_pointer(c_type) && is_void_base(c_type.base)
 }
 
-pub fn is_struct(kind: CType) -> bool
-    ensures { result ≡ types.is_struct kind }
+pub fn is_struct(c_type: CType) -> bool
+    ensures { result ≡ types.is_struct c_type }
 {
-    !is_pointer(kind) && is_struct_base(kind.base)
+    !is_pointer(c_type) && is_struct_base(c_type.base)
 }
 
 /// Whether it is the type of `NULL`.
-pub fn is_null(kind: CType) -> bool
-    ensures { result ≡ types.is_null kind }
+pub fn is_null(c_type: CType) -> bool
+    ensures { result ≡ types.is_null c_type }
 {
-    is_pointer(kind) && is_void_base(kind.base)
+    is_pointer(c_type) && is_void_base(c_type.base)
 }
 
 /// Whether its values point to something.
-pub fn is_target(kind: CType) -> bool
-    ensures { result ≡ types.is_target kind }
+pub fn is_target(c_type: CType) -> bool
+    ensures { result ≡ types.is_target c_type }
 {
-    is_pointer(kind) && !is_void_base(kind.base)
+    is_pointer(c_type) && !is_void_base(c_type.base)
 }
 
 /// The type of a pointer to it.
-pub fn pointer_to(kind: CType) -> CType
-    ensures { result ≡ types.pointer_to kind }
+pub fn pointer_to(c_type: CType) -> CType
+    ensures { result ≡ types.pointer_to c_type }
 {
     CType {
-        base: kind.base,
-        stars: kind.stars.saturating_add(1),
+        base: c_type.base,
+        stars: c_type.stars.saturating_add(1),
     }
 }
 
 /// What a pointer points to.
-pub fn target(kind: CType) -> CType
-    ensures { result ≡ types.target kind }
+pub fn target(c_type: CType) -> CType
+    ensures { result ≡ types.target c_type }
 {
     CType {
-        base: kind.base,
-        stars: kind.stars.saturating_sub(1),
+        base: c_type.base,
+        stars: c_type.stars.saturating_sub(1),
     }
 }
 
@@ -220,31 +220,31 @@ pub fn integer(kind: IntegerType) -> CType
 }
 
 /// The integer type that it is.
-pub fn integer_of(kind: CType) -> IntegerType
-    ensures { result ≡ types.integer_of kind }
+pub fn integer_of(c_type: CType) -> IntegerType
+    ensures { result ≡ types.integer_of c_type }
 {
-    match kind.base {
+    match c_type.base {
         Base::Integer(kind) => kind,
         Base::Void | Base::Struct(_) => IntegerType::Int,
     }
 }
 
 /// What a cell of the type is read as.
-pub fn scalar_of(kind: CType) -> Scalar
-    ensures { result ≡ types.scalar_of kind }
+pub fn scalar_of(c_type: CType) -> Scalar
+    ensures { result ≡ types.scalar_of c_type }
 {
-    if is_pointer(kind) {
+    if is_pointer(c_type) {
         Scalar::Pointer
     } else {
-        Scalar::Number(integer_of(kind))
+        Scalar::Number(integer_of(c_type))
     }
 }
 
 /// Whether no object is of it: void, a pointer to void, or what takes no room, by value a struct whose definition hasn't ended.
-pub fn is_incomplete(structs: &[Struct], kind: CType) -> bool
-    ensures { result ≡ types.is_incomplete structs.now kind }
+pub fn is_incomplete(structs: &[Struct], c_type: CType) -> bool
+    ensures { result ≡ types.is_incomplete structs.now c_type }
 {
-    is_void_base(kind.base) || element_cells(structs, kind) == 0
+    is_void_base(c_type.base) || element_cells(structs, c_type) == 0
 }
 
 // ---- equality
@@ -305,10 +305,10 @@ pub fn is_array_size(n: u64) -> bool
 }
 
 /// How many cells an element of the type has.
-pub fn element_cells(structs: &[Struct], kind: CType) -> u32
-    ensures { result ≡ types.element_cells structs.now kind }
+pub fn element_cells(structs: &[Struct], c_type: CType) -> u32
+    ensures { result ≡ types.element_cells structs.now c_type }
 {
-    extent_of(structs, kind).cells
+    extent_of(structs, c_type).cells
 }
 
 /// The cells of arrays of these sizes, the outermost first, of elements with so many each; none, where a size isn't 1 to 8,192 or there are more than 8,192 cells.

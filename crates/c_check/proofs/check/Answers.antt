@@ -7,7 +7,7 @@ use Rattle.c_check.proofs.check.Goals as goal
 pub returns-in-Some-clause-right : goal.returns-in-Some-clause-right
 returns-in-Some-clause-right c =
     refuses c.args.tree.now c.deref.result.now c.in-Some.breach
-    (noted _ _ _ _ c.deref.ensures.value c.in_ok-found.ensures.faults c.new-walker.ensures)
+    (noted _ _ _ _ c.deref.ensures.value c.in_ok-found.ensures.breaches c.new-walker.ensures)
     (sym c.first.ensures ∙ c.in-Some.is)
 
 pub returns-in-Some-clause-exact : goal.returns-in-Some-clause-exact
@@ -17,7 +17,7 @@ returns-in-Some-clause-exact c =
 pub returns-in-Some-found-clause-right : goal.returns-in-Some-found-clause-right
 returns-in-Some-found-clause-right c =
     accepts c.args.tree.now c.deref.result.now c.in-Some-found.program
-    (noted _ _ _ _ c.deref.ensures.value c.in_ok-found.ensures.faults c.new-walker.ensures)
+    (noted _ _ _ _ c.deref.ensures.value c.in_ok-found.ensures.breaches c.new-walker.ensures)
     (sym c.first.ensures ∙ c.in-None.is)
     (sym c.in-Some-found.is ∙ c.in_ok-found.ensures.found)
 
@@ -31,6 +31,6 @@ returns-in-Some-found-clause-regular c = is_regular_program c.args.tree.now c.in
 pub unreachable-requires : goal.unreachable-requires
 unreachable-requires c =
     some_form c.args.tree.now c.deref.result.now
-    (noted _ _ _ _ c.deref.ensures.value c.in_ok-found.ensures.faults c.new-walker.ensures)
+    (noted _ _ _ _ c.deref.ensures.value c.in_ok-found.ensures.breaches c.new-walker.ensures)
     (sym c.first.ensures ∙ c.in-None.is)
     (sym c.in-None-found.is ∙ c.in_ok-found.ensures.found)

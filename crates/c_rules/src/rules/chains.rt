@@ -6,10 +6,10 @@ ghost use Rattle.c_rules.specs.Judged.{Notes};
 ghost use Rattle.c_rules.specs.Rules as rules;
 ghost use Rattle.c_rules.specs.Types as types;
 
-use crate::fault::{Fault, rule};
+use crate::breach::{Breach, rule};
 use crate::found::{Found, Run};
 use crate::rules::values::{
-    clash, is_zero, kind_of, number, plain, pointer, scalar, value, value_in,
+    c_type_of, clash, is_zero, number, plain, pointer, scalar, value, value_in,
 };
 use crate::rules::{has_pointer, met};
 use crate::types::{
@@ -26,12 +26,12 @@ pub fn begin(alloc: Global, a: Boxed<Found>) -> Result<Boxed<Run>, AllocError>
     ensures { IfOk result (λ run. run ≡ rules.begin a) }
 {
     let at = a.get().at;
-    let kind = kind_of(a.get());
+    let c_type = c_type_of(a.get());
     let zero = is_zero(a.get());
     let first = value(alloc, a)?;
     let run = Run {
         at,
-        kind,
+        c_type,
         zero,
         first,
         rest: Items::new(alloc),
@@ -41,30 +41,30 @@ pub fn begin(alloc: Global, a: Boxed<Found>) -> Result<Boxed<Run>, AllocError>
 
 /// A chain as an expression.
 pub fn closed(alloc: Global, a: Boxed<Run>) -> Result<Boxed<Found>, AllocError>
-    ensures { IfOk result (λ found. found ≡ rules.plain a.at a.kind (rules.closed a)) }
+    ensures { IfOk result (λ found. found ≡ rules.plain a.at a.c_type (rules.closed a)) }
 {
     let Run {
         at,
-        kind,
+        c_type,
         first,
         rest,
         ..
     } = a.into_inner();
     let term = Boxed::new(alloc, Expr::Chain { first, rest })?;
-    plain(alloc, at, kind, term)
+    plain(alloc, at, c_type, term)
 }
 
 // With one operator more.
 fn extended(
     alloc: Global,
     a: Boxed<Run>,
-    kind: CType,
+    c_type: CType,
     link: Link<Expr>,
 ) -> Result<Boxed<Run>, AllocError>
-    ensures { IfOk result (λ run. run ≡ rules.extended a kind link) }
+    ensures { IfOk result (λ run. run ≡ rules.extended a c_type link) }
 {
     let mut run = a.into_inner();
-    run.kind = kind;
+    run.c_type = c_type;
     run.zero = false;
     run.rest.push(link)?;
     Boxed::new(alloc, run)
@@ -88,19 +88,19 @@ fn as_pointer(alloc: Global, a: Boxed<Run>) -> Result<Boxed<Run>, AllocError>
 // ---- rules of two operands
 
 #[tactic(auto, using(std::proofs::Common::append_assoc))]
-fn numbers(faults: &mut Vec<Fault>, a: &Run, b: &Found) -> Result<(), AllocError>
-    ensures { OnOk result (Notes faults.old faults.new (rules.numbers_rules a.now b.now)) }
+fn numbers(breaches: &mut Vec<Breach>, a: &Run, b: &Found) -> Result<(), AllocError>
+    ensures { OnOk result (Notes breaches.old breaches.new (rules.numbers_rules a.now b.now)) }
 {
-    number(faults, a.at, a.kind)?;
-    number(faults, b.at, kind_of(b))
+    number(breaches, a.at, a.c_type)?;
+    number(breaches, b.at, c_type_of(b))
 }
 
 #[tactic(auto, using(std::proofs::Common::append_assoc))]
-fn scalars(faults: &mut Vec<Fault>, a: &Run, b: &Found) -> Result<(), AllocError>
-    ensures { OnOk result (Notes faults.old faults.new (rules.scalars_rules a.now b.now)) }
+fn scalars(breaches: &mut Vec<Breach>, a: &Run, b: &Found) -> Result<(), AllocError>
+    ensures { OnOk result (Notes breaches.old breaches.new (rules.scalars_rules a.now b.now)) }
 {
-    scalar(faults, a.at, a.kind)?;
-    scalar(faults, b.at, kind_of(b))
+    scalar(breaches, a.at, a.c_type)?;
+    scalar(breaches, b.at, c_type_of(b))
 }
 
 /// Whether two operands, of which one is a pointer and either may be the literal 0, don't go together.
@@ -114,32 +114,33 @@ pub fn operands_clash(zero: bool, t: CType, other: bool, u: CType) -> bool
     }
 }
 
-fn mismatch(faults: &mut Vec<Fault>, a: &Run, b: &Found) -> Result<(), AllocError>
-    ensures { OnOk result (Notes faults.old faults.new (rules.mismatch a.now b.now)) }
+fn mismatch(breaches: &mut Vec<Breach>, a: &Run, b: &Found) -> Result<(), AllocError>
+    ensures { OnOk result (Notes breaches.old breaches.new (rules.mismatch a.now b.now)) }
 {
-    let kind = kind_of(b);
-    let clash = has_pointer(a.kind, kind) && operands_clash(a.zero, a.kind, is_zero(b), kind);
-    rule(faults, clash, Kind::TypeMismatch, a.at)
+    let c_type = c_type_of(b);
+    let clash = has_pointer(a.c_type, c_type)
+        && operands_clash(a.zero, a.c_type, is_zero(b), c_type);
+    rule(breaches, clash, Kind::TypeMismatch, a.at)
 }
 
-fn note_sum(faults: &mut Vec<Fault>, a: &Run, b: &Found) -> Result<(), AllocError>
-    ensures { OnOk result (Notes faults.old faults.new (rules.sum_rules a.now b.now)) }
+fn note_sum(breaches: &mut Vec<Breach>, a: &Run, b: &Found) -> Result<(), AllocError>
+    ensures { OnOk result (Notes breaches.old breaches.new (rules.sum_rules a.now b.now)) }
 {
-    if !is_target(a.kind) {
-        return numbers(faults, a, b);
+    if !is_target(a.c_type) {
+        return numbers(breaches, a, b);
     }
-    number(faults, b.at, kind_of(b))
+    number(breaches, b.at, c_type_of(b))
 }
 
 #[tactic(auto, using(std::proofs::Common::append_assoc))]
-fn note_minus(faults: &mut Vec<Fault>, a: &Run, b: &Found) -> Result<(), AllocError>
-    ensures { OnOk result (Notes faults.old faults.new (rules.minus_rules a.now b.now)) }
+fn note_minus(breaches: &mut Vec<Breach>, a: &Run, b: &Found) -> Result<(), AllocError>
+    ensures { OnOk result (Notes breaches.old breaches.new (rules.minus_rules a.now b.now)) }
 {
-    if !is_pointer(kind_of(b)) {
-        return note_sum(faults, a, b);
+    if !is_pointer(c_type_of(b)) {
+        return note_sum(breaches, a, b);
     }
-    scalar(faults, a.at, a.kind)?;
-    mismatch(faults, a, b)
+    scalar(breaches, a.at, a.c_type)?;
+    mismatch(breaches, a, b)
 }
 
 // ---- arithmetic
@@ -152,8 +153,8 @@ fn computed(
 ) -> Result<Boxed<Run>, AllocError>
     ensures { IfOk result (λ run. run ≡ rules.computed operator a b) }
 {
-    let left = integer_of(a.get().kind);
-    let kind = common(left, integer_of(kind_of(b.get())));
+    let left = integer_of(a.get().c_type);
+    let kind = common(left, integer_of(c_type_of(b.get())));
     let link = Link {
         conversion: change(kind, left),
         operator: BinaryOperator::Arithmetic { operator, kind },
@@ -166,17 +167,17 @@ fn computed(
 #[tactic(auto, unfolding(crate::specs::Rules::arithmetic))]
 pub fn arithmetic(
     alloc: Global,
-    faults: &mut Vec<Fault>,
+    breaches: &mut Vec<Breach>,
     operator: Arithmetic,
     a: Boxed<Run>,
     b: Boxed<Found>,
 ) -> Result<Option<Boxed<Run>>, AllocError>
     ensures found { IfOk result (λ found. found ≡ (rules.arithmetic operator a b).found) }
-    ensures faults { OnOk result (Notes faults.old faults.new (rules.arithmetic operator a b).faults) }
+    ensures breaches { OnOk result (Notes breaches.old breaches.new (rules.arithmetic operator a b).breaches) }
 {
-    let before = faults.len();
-    numbers(faults, a.get(), b.get())?;
-    if faults.len() > before {
+    let before = breaches.len();
+    numbers(breaches, a.get(), b.get())?;
+    if breaches.len() > before {
         return Ok(None);
     }
     computed(alloc, operator, a, b).map(Some)
@@ -192,14 +193,14 @@ fn advanced(
 ) -> Result<Boxed<Run>, AllocError>
     ensures { IfOk result (λ run. run ≡ rules.advanced structs.now way a b) }
 {
-    let kind = a.get().kind;
-    let cells = element_cells(structs, target(kind));
+    let c_type = a.get().c_type;
+    let cells = element_cells(structs, target(c_type));
     let link = Link {
         conversion: None,
         operator: BinaryOperator::Advance { way, cells },
         operand: value(alloc, b)?.into_inner(),
     };
-    extended(alloc, a, kind, link)
+    extended(alloc, a, c_type, link)
 }
 
 // From one pointer to another.
@@ -211,7 +212,7 @@ fn between(
 ) -> Result<Boxed<Run>, AllocError>
     ensures { IfOk result (λ run. run ≡ rules.between structs.now a b) }
 {
-    let cells = element_cells(structs, target(met(a.get().kind, kind_of(b.get()))));
+    let cells = element_cells(structs, target(met(a.get().c_type, c_type_of(b.get()))));
     let first = as_pointer(alloc, a)?;
     let link = Link {
         conversion: None,
@@ -227,9 +228,9 @@ fn sum(
     a: Boxed<Run>,
     b: Boxed<Found>,
 ) -> Result<Boxed<Run>, AllocError>
-    ensures { IfOk result (λ run. run ≡ (if types.is_target a.kind then rules.advanced structs.now Way.Forward a b else rules.computed Arithmetic.Add a b)) }
+    ensures { IfOk result (λ run. run ≡ (if types.is_target a.c_type then rules.advanced structs.now Way.Forward a b else rules.computed Arithmetic.Add a b)) }
 {
-    if is_target(a.get().kind) {
+    if is_target(a.get().c_type) {
         advanced(alloc, structs, Way::Forward, a, b)
     } else {
         computed(alloc, Arithmetic::Add, a, b)
@@ -244,7 +245,7 @@ fn less(
 ) -> Result<Boxed<Run>, AllocError>
     ensures { IfOk result (λ run. run ≡ rules.less structs.now a b) }
 {
-    if is_target(a.get().kind) {
+    if is_target(a.get().c_type) {
         advanced(alloc, structs, Way::Back, a, b)
     } else {
         computed(alloc, Arithmetic::Subtract, a, b)
@@ -257,9 +258,9 @@ fn difference(
     a: Boxed<Run>,
     b: Boxed<Found>,
 ) -> Result<Boxed<Run>, AllocError>
-    ensures { IfOk result (λ run. run ≡ (if types.is_pointer (rules.kind_of b) then rules.between structs.now a b else rules.less structs.now a b)) }
+    ensures { IfOk result (λ run. run ≡ (if types.is_pointer (rules.c_type_of b) then rules.between structs.now a b else rules.less structs.now a b)) }
 {
-    if is_pointer(kind_of(b.get())) {
+    if is_pointer(c_type_of(b.get())) {
         between(alloc, structs, a, b)
     } else {
         less(alloc, structs, a, b)
@@ -270,17 +271,17 @@ fn difference(
 #[tactic(auto, unfolding(crate::specs::Rules::plus))]
 pub fn plus(
     alloc: Global,
-    faults: &mut Vec<Fault>,
+    breaches: &mut Vec<Breach>,
     structs: &[Struct],
     a: Boxed<Run>,
     b: Boxed<Found>,
 ) -> Result<Option<Boxed<Run>>, AllocError>
     ensures found { IfOk result (λ found. found ≡ (rules.plus structs.now a b).found) }
-    ensures faults { OnOk result (Notes faults.old faults.new (rules.plus structs.now a b).faults) }
+    ensures breaches { OnOk result (Notes breaches.old breaches.new (rules.plus structs.now a b).breaches) }
 {
-    let before = faults.len();
-    note_sum(faults, a.get(), b.get())?;
-    if faults.len() > before {
+    let before = breaches.len();
+    note_sum(breaches, a.get(), b.get())?;
+    if breaches.len() > before {
         return Ok(None);
     }
     sum(alloc, structs, a, b).map(Some)
@@ -290,17 +291,17 @@ pub fn plus(
 #[tactic(auto, unfolding(crate::specs::Rules::minus))]
 pub fn minus(
     alloc: Global,
-    faults: &mut Vec<Fault>,
+    breaches: &mut Vec<Breach>,
     structs: &[Struct],
     a: Boxed<Run>,
     b: Boxed<Found>,
 ) -> Result<Option<Boxed<Run>>, AllocError>
     ensures found { IfOk result (λ found. found ≡ (rules.minus structs.now a b).found) }
-    ensures faults { OnOk result (Notes faults.old faults.new (rules.minus structs.now a b).faults) }
+    ensures breaches { OnOk result (Notes breaches.old breaches.new (rules.minus structs.now a b).breaches) }
 {
-    let before = faults.len();
-    note_minus(faults, a.get(), b.get())?;
-    if faults.len() > before {
+    let before = breaches.len();
+    note_minus(breaches, a.get(), b.get())?;
+    if breaches.len() > before {
         return Ok(None);
     }
     difference(alloc, structs, a, b).map(Some)
@@ -312,9 +313,9 @@ fn shifted(
     a: Boxed<Run>,
     b: Boxed<Found>,
 ) -> Result<Boxed<Run>, AllocError>
-    ensures { IfOk result (λ run. let kind = types.promoted (types.integer_of a.kind) in run ≡ rules.extended a (types.integer kind) (record { conversion = types.change kind (types.integer_of a.kind); operator = BinaryOperator.Shift direction kind; operand = rules.value b })) }
+    ensures { IfOk result (λ run. let kind = types.promoted (types.integer_of a.c_type) in run ≡ rules.extended a (types.integer kind) (record { conversion = types.change kind (types.integer_of a.c_type); operator = BinaryOperator.Shift direction kind; operand = rules.value b })) }
 {
-    let left = integer_of(a.get().kind);
+    let left = integer_of(a.get().c_type);
     let kind = promoted(left);
     let link = Link {
         conversion: change(kind, left),
@@ -328,17 +329,17 @@ fn shifted(
 #[tactic(auto, unfolding(crate::specs::Rules::shift))]
 pub fn shift(
     alloc: Global,
-    faults: &mut Vec<Fault>,
+    breaches: &mut Vec<Breach>,
     direction: Direction,
     a: Boxed<Run>,
     b: Boxed<Found>,
 ) -> Result<Option<Boxed<Run>>, AllocError>
     ensures found { IfOk result (λ found. found ≡ (rules.shift direction a b).found) }
-    ensures faults { OnOk result (Notes faults.old faults.new (rules.shift direction a b).faults) }
+    ensures breaches { OnOk result (Notes breaches.old breaches.new (rules.shift direction a b).breaches) }
 {
-    let before = faults.len();
-    numbers(faults, a.get(), b.get())?;
-    if faults.len() > before {
+    let before = breaches.len();
+    numbers(breaches, a.get(), b.get())?;
+    if breaches.len() > before {
         return Ok(None);
     }
     shifted(alloc, direction, a, b).map(Some)
@@ -348,11 +349,11 @@ pub fn shift(
 
 // The rules of two numbers or two pointers.
 #[tactic(auto, using(std::proofs::Common::append_assoc))]
-fn note_comparison(faults: &mut Vec<Fault>, a: &Run, b: &Found) -> Result<(), AllocError>
-    ensures { OnOk result (Notes faults.old faults.new (rules.scalars_rules a.now b.now ++ rules.mismatch a.now b.now)) }
+fn note_comparison(breaches: &mut Vec<Breach>, a: &Run, b: &Found) -> Result<(), AllocError>
+    ensures { OnOk result (Notes breaches.old breaches.new (rules.scalars_rules a.now b.now ++ rules.mismatch a.now b.now)) }
 {
-    scalars(faults, a, b)?;
-    mismatch(faults, a, b)
+    scalars(breaches, a, b)?;
+    mismatch(breaches, a, b)
 }
 
 fn compared_numbers(
@@ -363,8 +364,8 @@ fn compared_numbers(
 ) -> Result<Boxed<Run>, AllocError>
     ensures { IfOk result (λ run. run ≡ rules.compared_numbers operator a b) }
 {
-    let left = integer_of(a.get().kind);
-    let kind = common(left, integer_of(kind_of(b.get())));
+    let left = integer_of(a.get().c_type);
+    let kind = common(left, integer_of(c_type_of(b.get())));
     let link = Link {
         conversion: change(kind, left),
         operator: BinaryOperator::Comparison(operator),
@@ -396,9 +397,9 @@ fn compared(
     a: Boxed<Run>,
     b: Boxed<Found>,
 ) -> Result<Boxed<Run>, AllocError>
-    ensures { IfOk result (λ run. run ≡ (if rules.has_pointer a.kind (rules.kind_of b) then rules.compared_pointers operator a b else rules.compared_numbers operator a b)) }
+    ensures { IfOk result (λ run. run ≡ (if rules.has_pointer a.c_type (rules.c_type_of b) then rules.compared_pointers operator a b else rules.compared_numbers operator a b)) }
 {
-    if has_pointer(a.get().kind, kind_of(b.get())) {
+    if has_pointer(a.get().c_type, c_type_of(b.get())) {
         compared_pointers(alloc, operator, a, b)
     } else {
         compared_numbers(alloc, operator, a, b)
@@ -409,17 +410,17 @@ fn compared(
 #[tactic(auto, unfolding(crate::specs::Rules::comparison))]
 pub fn comparison(
     alloc: Global,
-    faults: &mut Vec<Fault>,
+    breaches: &mut Vec<Breach>,
     operator: Comparison,
     a: Boxed<Run>,
     b: Boxed<Found>,
 ) -> Result<Option<Boxed<Run>>, AllocError>
     ensures found { IfOk result (λ found. found ≡ (rules.comparison operator a b).found) }
-    ensures faults { OnOk result (Notes faults.old faults.new (rules.comparison operator a b).faults) }
+    ensures breaches { OnOk result (Notes breaches.old breaches.new (rules.comparison operator a b).breaches) }
 {
-    let before = faults.len();
-    note_comparison(faults, a.get(), b.get())?;
-    if faults.len() > before {
+    let before = breaches.len();
+    note_comparison(breaches, a.get(), b.get())?;
+    if breaches.len() > before {
         return Ok(None);
     }
     compared(alloc, operator, a, b).map(Some)
@@ -445,17 +446,17 @@ fn joined(
 #[tactic(auto, unfolding(crate::specs::Rules::logical))]
 pub fn logical(
     alloc: Global,
-    faults: &mut Vec<Fault>,
+    breaches: &mut Vec<Breach>,
     operator: BinaryOperator,
     a: Boxed<Run>,
     b: Boxed<Found>,
 ) -> Result<Option<Boxed<Run>>, AllocError>
     ensures found { IfOk result (λ found. found ≡ (rules.logical operator a b).found) }
-    ensures faults { OnOk result (Notes faults.old faults.new (rules.logical operator a b).faults) }
+    ensures breaches { OnOk result (Notes breaches.old breaches.new (rules.logical operator a b).breaches) }
 {
-    let before = faults.len();
-    scalars(faults, a.get(), b.get())?;
-    if faults.len() > before {
+    let before = breaches.len();
+    scalars(breaches, a.get(), b.get())?;
+    if breaches.len() > before {
         return Ok(None);
     }
     joined(alloc, operator, a, b).map(Some)

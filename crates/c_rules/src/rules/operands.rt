@@ -7,10 +7,10 @@ ghost use Rattle.c_rules.specs.Judged.{Notes, breaks};
 ghost use Rattle.c_rules.specs.Rules as rules;
 ghost use Rattle.c_rules.specs.Types as types;
 
-use crate::fault::{Fault, rule};
+use crate::breach::{Breach, rule};
 use crate::found::{Form, Found};
 use crate::rules::values::{
-    constant, kind_of, note_pointer, number, place, plain, scalar, target_place, value, value_in,
+    c_type_of, constant, note_pointer, number, place, plain, scalar, target_place, value, value_in,
 };
 use crate::types::{
     integer, integer_of, is_array, is_incomplete, is_integer, one_object, pointer_to, promoted,
@@ -26,17 +26,17 @@ use std::alloc::{AllocError, Global};
 #[tactic(auto, unfolding(crate::specs::Rules::unary))]
 pub fn unary(
     alloc: Global,
-    faults: &mut Vec<Fault>,
+    breaches: &mut Vec<Breach>,
     operator: UnaryOperator,
     at: u32,
     a: Boxed<Found>,
 ) -> Result<Option<Boxed<Found>>, AllocError>
     ensures found { IfOk result (λ found. found ≡ (rules.unary operator at a).found) }
-    ensures faults { OnOk result (Notes faults.old faults.new (rules.unary operator at a).faults) }
+    ensures breaches { OnOk result (Notes breaches.old breaches.new (rules.unary operator at a).breaches) }
 {
-    let before = faults.len();
-    number(faults, a.get().at, kind_of(a.get()))?;
-    if faults.len() > before {
+    let before = breaches.len();
+    number(breaches, a.get().at, c_type_of(a.get()))?;
+    if breaches.len() > before {
         return Ok(None);
     }
     signed(alloc, operator, at, a).map(Some)
@@ -48,9 +48,9 @@ fn signed(
     at: u32,
     a: Boxed<Found>,
 ) -> Result<Boxed<Found>, AllocError>
-    ensures { IfOk result (λ found. let kind = types.promoted (types.integer_of (rules.kind_of a)) in found ≡ rules.plain at (types.integer kind) (Expr.Unary operator kind (rules.value_in kind a))) }
+    ensures { IfOk result (λ found. let kind = types.promoted (types.integer_of (rules.c_type_of a)) in found ≡ rules.plain at (types.integer kind) (Expr.Unary operator kind (rules.value_in kind a))) }
 {
-    let kind = promoted(integer_of(kind_of(a.get())));
+    let kind = promoted(integer_of(c_type_of(a.get())));
     let operand = value_in(alloc, kind, a)?;
     let term = Boxed::new(
         alloc,
@@ -67,16 +67,16 @@ fn signed(
 #[tactic(auto, unfolding(crate::specs::Rules::negation))]
 pub fn negation(
     alloc: Global,
-    faults: &mut Vec<Fault>,
+    breaches: &mut Vec<Breach>,
     at: u32,
     a: Boxed<Found>,
 ) -> Result<Option<Boxed<Found>>, AllocError>
     ensures found { IfOk result (λ found. found ≡ (rules.negation at a).found) }
-    ensures faults { OnOk result (Notes faults.old faults.new (rules.negation at a).faults) }
+    ensures breaches { OnOk result (Notes breaches.old breaches.new (rules.negation at a).breaches) }
 {
-    let before = faults.len();
-    scalar(faults, a.get().at, kind_of(a.get()))?;
-    if faults.len() > before {
+    let before = breaches.len();
+    scalar(breaches, a.get().at, c_type_of(a.get()))?;
+    if breaches.len() > before {
         return Ok(None);
     }
     negated(alloc, at, a).map(Some)
@@ -93,21 +93,21 @@ fn negated(alloc: Global, at: u32, a: Boxed<Found>) -> Result<Boxed<Found>, Allo
 #[tactic(auto, unfolding(crate::specs::Rules::dereference))]
 pub fn dereference(
     alloc: Global,
-    faults: &mut Vec<Fault>,
+    breaches: &mut Vec<Breach>,
     structs: &[Struct],
     at: u32,
     a: Boxed<Found>,
 ) -> Result<Option<Boxed<Found>>, AllocError>
     ensures found { IfOk result (λ found. found ≡ (rules.dereference structs.now at a).found) }
-    ensures faults { OnOk result (Notes faults.old faults.new (rules.dereference structs.now at a).faults) }
+    ensures breaches { OnOk result (Notes breaches.old breaches.new (rules.dereference structs.now at a).breaches) }
 {
-    let before = faults.len();
-    let kind = kind_of(a.get());
-    note_pointer(faults, a.get().at, kind)?;
-    if faults.len() > before {
+    let before = breaches.len();
+    let c_type = c_type_of(a.get());
+    note_pointer(breaches, a.get().at, c_type)?;
+    if breaches.len() > before {
         return Ok(None);
     }
-    pointed(alloc, structs, at, kind, a).map(Some)
+    pointed(alloc, structs, at, c_type, a).map(Some)
 }
 
 // What a pointer of the type points to.
@@ -115,13 +115,13 @@ fn pointed(
     alloc: Global,
     structs: &[Struct],
     at: u32,
-    kind: CType,
+    c_type: CType,
     a: Boxed<Found>,
 ) -> Result<Boxed<Found>, AllocError>
-    ensures { IfOk result (λ found. found ≡ rules.place at (types.one_object structs.now (types.target kind)) (rules.target_place a)) }
+    ensures { IfOk result (λ found. found ≡ rules.place at (types.one_object structs.now (types.target c_type)) (rules.target_place a)) }
 {
     let whole = target_place(alloc, a)?;
-    let inner = one_object(alloc, structs, target(kind));
+    let inner = one_object(alloc, structs, target(c_type));
     place(alloc, at, inner, whole)
 }
 
@@ -129,22 +129,22 @@ fn pointed(
 #[tactic(auto, unfolding(crate::specs::Rules::address))]
 pub fn address(
     alloc: Global,
-    faults: &mut Vec<Fault>,
+    breaches: &mut Vec<Breach>,
     at: u32,
     a: Boxed<Found>,
 ) -> Result<Option<Boxed<Found>>, AllocError>
     ensures found { IfOk result (λ found. found ≡ (rules.address at a).found) }
-    ensures faults { OnOk result (Notes faults.old faults.new (rules.address at a).faults) }
+    ensures breaches { OnOk result (Notes breaches.old breaches.new (rules.address at a).breaches) }
 {
     let Found { at: operand, form } = a.into_inner();
     match form {
         Form::Zero(_) | Form::Value { .. } => {
-            rule(faults, true, Kind::NotPlace, operand)?;
+            rule(breaches, true, Kind::NotPlace, operand)?;
             Ok(None)
         }
         Form::Place { kind, place } => {
             if is_array(&kind) {
-                rule(faults, true, Kind::NotPlace, operand)?;
+                rule(breaches, true, Kind::NotPlace, operand)?;
                 return Ok(None);
             }
             let term = Boxed::new(alloc, Expr::Address(place.into_inner()))?;
@@ -155,51 +155,51 @@ pub fn address(
 
 // The rules of a cast from one type to another.
 #[tactic(auto, using(std::proofs::Common::append_assoc))]
-fn note_cast(faults: &mut Vec<Fault>, at: u32, to: CType, from: CType) -> Result<(), AllocError>
-    ensures { OnOk result (Notes faults.old faults.new (rules.scalar_rules at from ++ breaks (not (types.is_integer to)) TypeMismatch at ++ breaks (not (types.is_integer from)) TypeMismatch at)) }
+fn note_cast(breaches: &mut Vec<Breach>, at: u32, to: CType, from: CType) -> Result<(), AllocError>
+    ensures { OnOk result (Notes breaches.old breaches.new (rules.scalar_rules at from ++ breaks (not (types.is_integer to)) TypeMismatch at ++ breaks (not (types.is_integer from)) TypeMismatch at)) }
 {
-    scalar(faults, at, from)?;
-    rule(faults, !is_integer(to), Kind::TypeMismatch, at)?;
-    rule(faults, !is_integer(from), Kind::TypeMismatch, at)
+    scalar(breaches, at, from)?;
+    rule(breaches, !is_integer(to), Kind::TypeMismatch, at)?;
+    rule(breaches, !is_integer(from), Kind::TypeMismatch, at)
 }
 
 /// A cast.
 #[tactic(auto, unfolding(crate::specs::Rules::cast))]
 pub fn cast(
     alloc: Global,
-    faults: &mut Vec<Fault>,
+    breaches: &mut Vec<Breach>,
     at: u32,
-    kind: CType,
+    c_type: CType,
     a: Boxed<Found>,
 ) -> Result<Option<Boxed<Found>>, AllocError>
-    ensures found { IfOk result (λ found. found ≡ (rules.cast at kind a).found) }
-    ensures faults { OnOk result (Notes faults.old faults.new (rules.cast at kind a).faults) }
+    ensures found { IfOk result (λ found. found ≡ (rules.cast at c_type a).found) }
+    ensures breaches { OnOk result (Notes breaches.old breaches.new (rules.cast at c_type a).breaches) }
 {
-    let before = faults.len();
-    note_cast(faults, at, kind, kind_of(a.get()))?;
-    if faults.len() > before {
+    let before = breaches.len();
+    note_cast(breaches, at, c_type, c_type_of(a.get()))?;
+    if breaches.len() > before {
         return Ok(None);
     }
-    let term = value_in(alloc, integer_of(kind), a)?;
-    plain(alloc, at, kind, term).map(Some)
+    let term = value_in(alloc, integer_of(c_type), a)?;
+    plain(alloc, at, c_type, term).map(Some)
 }
 
 /// `sizeof`.
 #[tactic(auto, unfolding(crate::specs::Rules::size_of))]
 pub fn size_of(
     alloc: Global,
-    faults: &mut Vec<Fault>,
+    breaches: &mut Vec<Breach>,
     structs: &[Struct],
     at: u32,
-    kind: CType,
+    c_type: CType,
 ) -> Result<Option<Boxed<Found>>, AllocError>
-    ensures found { IfOk result (λ found. found ≡ (rules.size_of structs.now at kind).found) }
-    ensures faults { OnOk result (Notes faults.old faults.new (rules.size_of structs.now at kind).faults) }
+    ensures found { IfOk result (λ found. found ≡ (rules.size_of structs.now at c_type).found) }
+    ensures breaches { OnOk result (Notes breaches.old breaches.new (rules.size_of structs.now at c_type).breaches) }
 {
-    if is_incomplete(structs, kind) {
-        rule(faults, true, Kind::IncompleteType, at)?;
+    if is_incomplete(structs, c_type) {
+        rule(breaches, true, Kind::IncompleteType, at)?;
         return Ok(None);
     }
-    let size = extent_of(structs, kind).size;
+    let size = extent_of(structs, c_type).size;
     constant(alloc, at, i64::from(size), IntegerType::Long).map(Some)
 }

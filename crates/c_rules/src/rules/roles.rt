@@ -4,9 +4,9 @@ ghost use Rattle.std.specs.Prelude.{◌≡◌, IfOk, OnOk};
 ghost use Rattle.c_rules.specs.Judged.{Notes};
 ghost use Rattle.c_rules.specs.Roles as arguments;
 
-use crate::fault::{Fault, rule};
+use crate::breach::{Breach, rule};
 use crate::found::Found;
-use crate::rules::values::{are_alike, kind_of, number, scalar, value, value_in};
+use crate::rules::values::{are_alike, c_type_of, number, scalar, value, value_in};
 use crate::types::{integer, is_pointer, pointer_to, status_type};
 use c_kernel::program::{Expr, MpiFunction};
 use c_kernel::{CType, IntegerType, element_type};
@@ -48,32 +48,32 @@ pub fn roles_of(alloc: Global, function: MpiFunction) -> Result<Items<Role>, All
 }
 
 // Where a pointer to objects of the type is needed, or NULL.
-fn note_pointed(faults: &mut Vec<Fault>, kind: CType, a: &Found) -> Result<(), AllocError>
-    ensures { OnOk result (Notes faults.old faults.new (arguments.points_rules kind a.now)) }
+fn note_pointed(breaches: &mut Vec<Breach>, c_type: CType, a: &Found) -> Result<(), AllocError>
+    ensures { OnOk result (Notes breaches.old breaches.new (arguments.points_rules c_type a.now)) }
 {
-    let other = !are_alike(pointer_to(kind), kind_of(a));
-    rule(faults, other, Kind::Datatype, a.at)
+    let other = !are_alike(pointer_to(c_type), c_type_of(a));
+    rule(breaches, other, Kind::Datatype, a.at)
 }
 
 #[tactic(auto, using(std::proofs::Common::append_assoc))]
-fn note_buffer(faults: &mut Vec<Fault>, kind: IntegerType, a: &Found) -> Result<(), AllocError>
-    ensures { OnOk result (Notes faults.old faults.new (arguments.role_rules (Role.Buffer kind) a.now)) }
+fn note_buffer(breaches: &mut Vec<Breach>, kind: IntegerType, a: &Found) -> Result<(), AllocError>
+    ensures { OnOk result (Notes breaches.old breaches.new (arguments.role_rules (Role.Buffer kind) a.now)) }
 {
-    scalar(faults, a.at, kind_of(a))?;
-    rule(faults, !is_pointer(kind_of(a)), Kind::NotPointer, a.at)?;
-    note_pointed(faults, integer(kind), a)
+    scalar(breaches, a.at, c_type_of(a))?;
+    rule(breaches, !is_pointer(c_type_of(a)), Kind::NotPointer, a.at)?;
+    note_pointed(breaches, integer(kind), a)
 }
 
 #[tactic(auto, using(std::proofs::Common::append_assoc))]
-fn note_role(faults: &mut Vec<Fault>, role: Role, a: &Found) -> Result<(), AllocError>
-    ensures { OnOk result (Notes faults.old faults.new (arguments.role_rules role a.now)) }
+fn note_role(breaches: &mut Vec<Breach>, role: Role, a: &Found) -> Result<(), AllocError>
+    ensures { OnOk result (Notes breaches.old breaches.new (arguments.role_rules role a.now)) }
 {
     match role {
-        Role::Number => number(faults, a.at, kind_of(a)),
-        Role::Buffer(kind) => note_buffer(faults, kind, a),
-        Role::Pointer(kind) => {
-            scalar(faults, a.at, kind_of(a))?;
-            note_pointed(faults, kind, a)
+        Role::Number => number(breaches, a.at, c_type_of(a)),
+        Role::Buffer(kind) => note_buffer(breaches, kind, a),
+        Role::Pointer(c_type) => {
+            scalar(breaches, a.at, c_type_of(a))?;
+            note_pointed(breaches, c_type, a)
         }
     }
 }
@@ -81,18 +81,18 @@ fn note_role(faults: &mut Vec<Fault>, role: Role, a: &Found) -> Result<(), Alloc
 /// The rules of the arguments that are given.
 #[tactic(auto, using(std::proofs::Common::append_assoc))]
 pub fn note_roles(
-    faults: &mut Vec<Fault>,
+    breaches: &mut Vec<Breach>,
     roles: &[Role],
     found: &[Boxed<Found>],
 ) -> Result<(), AllocError>
-    ensures { OnOk result (Notes faults.old faults.new (arguments.roles_rules roles.now found.now)) }
+    ensures { OnOk result (Notes breaches.old breaches.new (arguments.roles_rules roles.now found.now)) }
 {
     let mut rest = found;
     for role in roles {
         match rest {
             [] => return Ok(()),
             [a, more @ ..] => {
-                note_role(faults, *role, a.get())?;
+                note_role(breaches, *role, a.get())?;
                 rest = more;
             }
         }

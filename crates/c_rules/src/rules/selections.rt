@@ -7,10 +7,10 @@ ghost use Rattle.c_rules.specs.Judged.{Notes, breaks};
 ghost use Rattle.c_rules.specs.Rules as rules;
 ghost use Rattle.c_rules.specs.Types as types;
 
-use crate::fault::{Fault, rule};
+use crate::breach::{Breach, rule};
 use crate::found::{Form, Found};
 use crate::rules::values::{
-    element_place, kind_of, note_pointer, number, place, step_to, target_place, value,
+    c_type_of, element_place, note_pointer, number, place, step_to, target_place, value,
 };
 use crate::types::{element, element_cells, is_array, is_struct, is_target, one_object, target};
 use c_kernel::program::{Expr, Place, Selection};
@@ -29,13 +29,13 @@ fn is_array_found(a: &Found) -> bool
     }
 }
 
-fn note_base(faults: &mut Vec<Fault>, a: &Found) -> Result<(), AllocError>
-    ensures { OnOk result (Notes faults.old faults.new (rules.base_rules a.now)) }
+fn note_base(breaches: &mut Vec<Breach>, a: &Found) -> Result<(), AllocError>
+    ensures { OnOk result (Notes breaches.old breaches.new (rules.base_rules a.now)) }
 {
     if is_array_found(a) {
         return Ok(());
     }
-    note_pointer(faults, a.at, kind_of(a))
+    note_pointer(breaches, a.at, c_type_of(a))
 }
 
 // An element of an array.
@@ -59,30 +59,30 @@ fn element_from(
     a: Boxed<Found>,
     index: Boxed<Expr>,
 ) -> Result<Boxed<Found>, AllocError>
-    ensures { IfOk result (λ found. found ≡ rules.place a.at (types.one_object structs.now (types.target (rules.kind_of a))) (rules.step_to (rules.target_place a) (Selection.Element index (types.element_cells structs.now (types.target (rules.kind_of a)))))) }
+    ensures { IfOk result (λ found. found ≡ rules.place a.at (types.one_object structs.now (types.target (rules.c_type_of a))) (rules.step_to (rules.target_place a) (Selection.Element index (types.element_cells structs.now (types.target (rules.c_type_of a)))))) }
 {
     let at = a.get().at;
-    let kind = target(kind_of(a.get()));
+    let c_type = target(c_type_of(a.get()));
     let whole = target_place(alloc, a)?;
     let step = Selection::Element {
         index: index.into_inner(),
-        cells: element_cells(structs, kind),
+        cells: element_cells(structs, c_type),
     };
     let inner = step_to(alloc, whole, step)?;
-    place(alloc, at, one_object(alloc, structs, kind), inner)
+    place(alloc, at, one_object(alloc, structs, c_type), inner)
 }
 
 // An element of an array, or from where the pointer at a place points on.
-fn element_at(
+fn element_of_place(
     alloc: Global,
     structs: &[Struct],
     at: u32,
-    kind: ObjectType,
-    place: Boxed<Place<Expr>>,
+    object: (ObjectType, Boxed<Place<Expr>>),
     index: Boxed<Expr>,
 ) -> Result<Boxed<Found>, AllocError>
-    ensures { IfOk result (λ found. found ≡ rules.element_found structs.now (rules.place at kind place) index) }
+    ensures { IfOk result (λ found. found ≡ rules.element_found structs.now (rules.place at object.0 object.1) index) }
 {
+    let (kind, place) = object;
     if is_array(&kind) {
         return element_of_array(alloc, at, &kind, place, index);
     }
@@ -101,7 +101,7 @@ fn element_found(
 {
     let Found { at, form } = a.into_inner();
     match form {
-        Form::Place { kind, place } => element_at(alloc, structs, at, kind, place, index),
+        Form::Place { kind, place } => element_of_place(alloc, structs, at, (kind, place), index),
         form => {
             let pointer = Boxed::new(alloc, Found { at, form })?;
             element_from(alloc, structs, pointer, index)
@@ -122,28 +122,28 @@ fn indexed(
 }
 
 #[tactic(auto, using(std::proofs::Common::append_assoc))]
-fn note_index(faults: &mut Vec<Fault>, a: &Found, i: &Found) -> Result<(), AllocError>
-    ensures { OnOk result (Notes faults.old faults.new (rules.base_rules a.now ++ rules.number_rules i.now.at (rules.kind_of i.now))) }
+fn note_index(breaches: &mut Vec<Breach>, a: &Found, i: &Found) -> Result<(), AllocError>
+    ensures { OnOk result (Notes breaches.old breaches.new (rules.base_rules a.now ++ rules.number_rules i.now.at (rules.c_type_of i.now))) }
 {
-    note_base(faults, a)?;
-    number(faults, i.at, kind_of(i))
+    note_base(breaches, a)?;
+    number(breaches, i.at, c_type_of(i))
 }
 
 /// `a[i]`.
 #[tactic(auto, unfolding(crate::specs::Rules::index))]
 pub fn index(
     alloc: Global,
-    faults: &mut Vec<Fault>,
+    breaches: &mut Vec<Breach>,
     structs: &[Struct],
     a: Boxed<Found>,
     i: Boxed<Found>,
 ) -> Result<Option<Boxed<Found>>, AllocError>
     ensures found { IfOk result (λ found. found ≡ (rules.index structs.now a i).found) }
-    ensures faults { OnOk result (Notes faults.old faults.new (rules.index structs.now a i).faults) }
+    ensures breaches { OnOk result (Notes breaches.old breaches.new (rules.index structs.now a i).breaches) }
 {
-    let before = faults.len();
-    note_index(faults, a.get(), i.get())?;
-    if faults.len() > before {
+    let before = breaches.len();
+    note_index(breaches, a.get(), i.get())?;
+    if breaches.len() > before {
         return Ok(None);
     }
     indexed(alloc, structs, a, i).map(Some)
@@ -153,9 +153,9 @@ pub fn index(
 fn numbered<'m>(members: &'m [Member], name: &MemberName) -> Option<(usize, &'m Member)>
     ensures { option_map (λ found. (found.0, found.1.now)) result ≡ types.numbered 0 members.now (types.member_bytes name.now) }
 {
-    for (at, member) in members.iter().enumerate() {
+    for (number, member) in members.iter().enumerate() {
         if is_named(member, name) {
-            return Some((at, member));
+            return Some((number, member));
         }
     }
     None
@@ -186,12 +186,12 @@ pub fn member_at(name: &MemberName) -> u32
 // A member of a struct, with both numbers.
 fn member_in<'s>(
     structs: &'s [Struct],
-    kind: CType,
+    c_type: CType,
     name: &MemberName,
 ) -> Option<(usize, (usize, &'s Member))>
-    ensures { option_map (λ found. (found.0, (found.1.0, found.1.1.now))) result ≡ rules.member_in structs.now kind (types.member_bytes name.now) }
+    ensures { option_map (λ found. (found.0, (found.1.0, found.1.1.now))) result ≡ rules.member_in structs.now c_type (types.member_bytes name.now) }
 {
-    match kind.base {
+    match c_type.base {
         Base::Integer(_) | Base::Void => None,
         Base::Struct(number) => match structs.get(number) {
             None => None,
@@ -203,22 +203,28 @@ fn member_in<'s>(
     }
 }
 
+// The member of a name that what is of a type is to have.
+#[derive(Clone, Copy)]
+struct Wanted<'a> {
+    structs: &'a [Struct],
+    c_type: CType,
+    name: &'a MemberName,
+}
+
 // A member of what stands at a place.
 fn selected(
     alloc: Global,
-    faults: &mut Vec<Fault>,
-    structs: &[Struct],
+    breaches: &mut Vec<Breach>,
     at: u32,
-    kind: CType,
     whole: Boxed<Place<Expr>>,
-    name: &MemberName,
+    wanted: Wanted<'_>,
 ) -> Result<Option<Boxed<Found>>, AllocError>
-    ensures found { IfOk result (λ found. found ≡ (rules.selected structs.now at kind whole name.now).found) }
-    ensures faults { OnOk result (Notes faults.old faults.new (rules.selected structs.now at kind whole name.now).faults) }
+    ensures found { IfOk result (λ found. found ≡ (rules.selected wanted.entry.structs.now at wanted.entry.c_type whole wanted.entry.name.now).found) }
+    ensures breaches { OnOk result (Notes breaches.old breaches.new (rules.selected wanted.entry.structs.now at wanted.entry.c_type whole wanted.entry.name.now).breaches) }
 {
-    match member_in(structs, kind, name) {
+    match member_in(wanted.structs, wanted.c_type, wanted.name) {
         None => {
-            rule(faults, true, Kind::UnknownName, member_at(name))?;
+            rule(breaches, true, Kind::UnknownName, member_at(wanted.name))?;
             Ok(None)
         }
         Some((structure, (member, found))) => {
@@ -253,51 +259,64 @@ fn struct_place(a: Boxed<Found>) -> Option<(CType, Boxed<Place<Expr>>)>
 #[tactic(auto, unfolding(crate::specs::Rules::dot))]
 pub fn dot(
     alloc: Global,
-    faults: &mut Vec<Fault>,
+    breaches: &mut Vec<Breach>,
     structs: &[Struct],
     a: Boxed<Found>,
     name: &MemberName,
 ) -> Result<Option<Boxed<Found>>, AllocError>
     ensures found { IfOk result (λ found. found ≡ (rules.dot structs.now a name.now).found) }
-    ensures faults { OnOk result (Notes faults.old faults.new (rules.dot structs.now a name.now).faults) }
+    ensures breaches { OnOk result (Notes breaches.old breaches.new (rules.dot structs.now a name.now).breaches) }
 {
     let at = a.get().at;
     match struct_place(a) {
         None => {
-            rule(faults, true, Kind::NotStruct, at)?;
+            rule(breaches, true, Kind::NotStruct, at)?;
             Ok(None)
         }
-        Some((kind, whole)) => selected(alloc, faults, structs, at, kind, whole, name),
+        Some((c_type, whole)) => {
+            let wanted = Wanted {
+                structs,
+                c_type,
+                name,
+            };
+            selected(alloc, breaches, at, whole, wanted)
+        }
     }
 }
 
-fn note_arrow(faults: &mut Vec<Fault>, at: u32, kind: CType) -> Result<(), AllocError>
-    ensures { OnOk result (Notes faults.old faults.new (rules.pointer_rules at kind ++ breaks (types.is_target kind && not (types.is_struct (types.target kind))) NotStruct at)) }
+fn note_arrow(breaches: &mut Vec<Breach>, at: u32, c_type: CType) -> Result<(), AllocError>
+    ensures { OnOk result (Notes breaches.old breaches.new (rules.pointer_rules at c_type ++ breaks (types.is_target c_type && not (types.is_struct (types.target c_type))) NotStruct at)) }
 {
-    note_pointer(faults, at, kind)?;
-    let other = is_target(kind) && !is_struct(target(kind));
-    rule(faults, other, Kind::NotStruct, at)
+    note_pointer(breaches, at, c_type)?;
+    let other = is_target(c_type) && !is_struct(target(c_type));
+    rule(breaches, other, Kind::NotStruct, at)
 }
 
 /// `a->name`.
 #[tactic(auto, using(std::proofs::Common::append_assoc), unfolding(crate::specs::Rules::arrow))]
 pub fn arrow(
     alloc: Global,
-    faults: &mut Vec<Fault>,
+    breaches: &mut Vec<Breach>,
     structs: &[Struct],
     a: Boxed<Found>,
     name: &MemberName,
 ) -> Result<Option<Boxed<Found>>, AllocError>
     ensures found { IfOk result (λ found. found ≡ (rules.arrow structs.now a name.now).found) }
-    ensures faults { OnOk result (Notes faults.old faults.new (rules.arrow structs.now a name.now).faults) }
+    ensures breaches { OnOk result (Notes breaches.old breaches.new (rules.arrow structs.now a name.now).breaches) }
 {
     let at = a.get().at;
-    let kind = kind_of(a.get());
-    let before = faults.len();
-    note_arrow(faults, at, kind)?;
-    if faults.len() > before {
+    let pointer = c_type_of(a.get());
+    let before = breaches.len();
+    note_arrow(breaches, at, pointer)?;
+    if breaches.len() > before {
         return Ok(None);
     }
     let whole = target_place(alloc, a)?;
-    selected(alloc, faults, structs, at, target(kind), whole, name)
+    let c_type = target(pointer);
+    let wanted = Wanted {
+        structs,
+        c_type,
+        name,
+    };
+    selected(alloc, breaches, at, whole, wanted)
 }

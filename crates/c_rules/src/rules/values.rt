@@ -6,7 +6,7 @@ ghost use Rattle.c_rules.specs.Rules as rules;
 ghost use Rattle.c_rules.specs.declared.found.Form.TheVariants as form;
 ghost use Rattle.c_rules.specs.Types as types;
 
-use crate::fault::{Fault, rule};
+use crate::breach::{Breach, rule};
 use crate::found::{Form, Found};
 use crate::types::{
     converted, element, integer, integer_of, is_array, is_integer, is_null, is_pointer, is_scalar,
@@ -22,12 +22,12 @@ use std::alloc::{AllocError, Global};
 pub fn plain(
     alloc: Global,
     at: u32,
-    kind: CType,
+    c_type: CType,
     term: Boxed<Expr>,
 ) -> Result<Boxed<Found>, AllocError>
-    ensures { IfOk result (λ found. found ≡ rules.plain at kind term) }
+    ensures { IfOk result (λ found. found ≡ rules.plain at c_type term) }
 {
-    let form = Form::Value { kind, term };
+    let form = Form::Value { c_type, term };
     Boxed::new(alloc, Found { at, form })
 }
 
@@ -45,12 +45,12 @@ pub fn place(
 }
 
 /// The type of its value.
-pub fn kind_of(a: &Found) -> CType
-    ensures { result ≡ rules.kind_of a.now }
+pub fn c_type_of(a: &Found) -> CType
+    ensures { result ≡ rules.c_type_of a.now }
 {
     match &a.form {
         Form::Zero(kind) => integer(*kind),
-        Form::Value { kind, .. } => *kind,
+        Form::Value { c_type, .. } => *c_type,
         Form::Place { kind, .. } => value_type(kind),
     }
 }
@@ -154,12 +154,12 @@ fn first_place(
 }
 
 /// What stands at a place.
-pub fn value_at(
+pub fn value_of_place(
     alloc: Global,
     kind: ObjectType,
     place: Boxed<Place<Expr>>,
 ) -> Result<Boxed<Expr>, AllocError>
-    ensures { IfOk result (λ e. e ≡ rules.value_at kind place) }
+    ensures { IfOk result (λ e. e ≡ rules.value_of_place kind place) }
 {
     if is_array(&kind) {
         let first = first_place(alloc, &kind, place)?;
@@ -188,7 +188,7 @@ pub fn value(alloc: Global, a: Boxed<Found>) -> Result<Boxed<Expr>, AllocError>
     match a.into_inner().form {
         Form::Zero(kind) => zero(alloc, kind),
         Form::Value { term, .. } => Ok(term),
-        Form::Place { kind, place } => value_at(alloc, kind, place),
+        Form::Place { kind, place } => value_of_place(alloc, kind, place),
     }
 }
 
@@ -200,7 +200,7 @@ pub fn value_in(
 ) -> Result<Boxed<Expr>, AllocError>
     ensures { IfOk result (λ e. e ≡ rules.value_in kind a) }
 {
-    let from = integer_of(kind_of(a.get()));
+    let from = integer_of(c_type_of(a.get()));
     converted(alloc, kind, from, value(alloc, a)?)
 }
 
@@ -216,39 +216,39 @@ pub fn pointer(alloc: Global, a: Boxed<Found>) -> Result<Boxed<Expr>, AllocError
 }
 
 /// The value of an expression in a type.
-pub fn value_as(alloc: Global, kind: CType, a: Boxed<Found>) -> Result<Boxed<Expr>, AllocError>
-    ensures { IfOk result (λ e. e ≡ rules.value_as kind a) }
+pub fn value_as(alloc: Global, c_type: CType, a: Boxed<Found>) -> Result<Boxed<Expr>, AllocError>
+    ensures { IfOk result (λ e. e ≡ rules.value_as c_type a) }
 {
-    if is_pointer(kind) {
+    if is_pointer(c_type) {
         pointer(alloc, a)
     } else {
-        value_in(alloc, integer_of(kind), a)
+        value_in(alloc, integer_of(c_type), a)
     }
 }
 
 /// Where a number or pointer is needed.
-pub fn scalar(faults: &mut Vec<Fault>, at: u32, kind: CType) -> Result<(), AllocError>
-    ensures { OnOk result (Notes faults.old faults.new (rules.scalar_rules at kind)) }
+pub fn scalar(breaches: &mut Vec<Breach>, at: u32, c_type: CType) -> Result<(), AllocError>
+    ensures { OnOk result (Notes breaches.old breaches.new (rules.scalar_rules at c_type)) }
 {
-    rule(faults, !is_scalar(kind), Kind::NotScalar, at)
+    rule(breaches, !is_scalar(c_type), Kind::NotScalar, at)
 }
 
 /// Where a number is needed.
 #[tactic(auto, using(std::proofs::Common::append_assoc))]
-pub fn number(faults: &mut Vec<Fault>, at: u32, kind: CType) -> Result<(), AllocError>
-    ensures { OnOk result (Notes faults.old faults.new (rules.number_rules at kind)) }
+pub fn number(breaches: &mut Vec<Breach>, at: u32, c_type: CType) -> Result<(), AllocError>
+    ensures { OnOk result (Notes breaches.old breaches.new (rules.number_rules at c_type)) }
 {
-    scalar(faults, at, kind)?;
-    rule(faults, !is_integer(kind), Kind::NotInteger, at)
+    scalar(breaches, at, c_type)?;
+    rule(breaches, !is_integer(c_type), Kind::NotInteger, at)
 }
 
 /// Where a pointer to something is needed.
 #[tactic(auto, using(std::proofs::Common::append_assoc))]
-pub fn note_pointer(faults: &mut Vec<Fault>, at: u32, kind: CType) -> Result<(), AllocError>
-    ensures { OnOk result (Notes faults.old faults.new (rules.pointer_rules at kind)) }
+pub fn note_pointer(breaches: &mut Vec<Breach>, at: u32, c_type: CType) -> Result<(), AllocError>
+    ensures { OnOk result (Notes breaches.old breaches.new (rules.pointer_rules at c_type)) }
 {
-    scalar(faults, at, kind)?;
-    rule(faults, !is_target(kind), Kind::NotPointer, at)
+    scalar(breaches, at, c_type)?;
+    rule(breaches, !is_target(c_type), Kind::NotPointer, at)
 }
 
 pub fn are_alike(t: CType, u: CType) -> bool
@@ -270,12 +270,12 @@ pub fn clash(t: CType, zero: bool, u: CType) -> bool
 
 /// Where a value of a type is needed.
 #[tactic(auto, using(std::proofs::Common::append_assoc))]
-pub fn note_value(faults: &mut Vec<Fault>, kind: CType, a: &Found) -> Result<(), AllocError>
-    ensures { OnOk result (Notes faults.old faults.new (rules.value_rules kind a.now)) }
+pub fn note_value(breaches: &mut Vec<Breach>, c_type: CType, a: &Found) -> Result<(), AllocError>
+    ensures { OnOk result (Notes breaches.old breaches.new (rules.value_rules c_type a.now)) }
 {
-    scalar(faults, a.at, kind_of(a))?;
-    let clash = clash(kind, is_zero(a), kind_of(a));
-    rule(faults, clash, Kind::TypeMismatch, a.at)
+    scalar(breaches, a.at, c_type_of(a))?;
+    let clash = clash(c_type, is_zero(a), c_type_of(a));
+    rule(breaches, clash, Kind::TypeMismatch, a.at)
 }
 
 // ---- constants
@@ -314,10 +314,10 @@ pub fn literal(
 pub fn null(alloc: Global, at: u32) -> Result<Boxed<Found>, AllocError>
     ensures { IfOk result (λ found. found ≡ rules.plain at types.null_type Expr.Null) }
 {
-    let kind = CType {
+    let c_type = CType {
         base: Base::Void,
         stars: 1,
     };
     let term = Boxed::new(alloc, Expr::Null)?;
-    plain(alloc, at, kind, term)
+    plain(alloc, at, c_type, term)
 }

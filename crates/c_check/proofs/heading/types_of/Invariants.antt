@@ -5,4 +5,4 @@ use Rattle.c_check.proofs.heading.types_of.Given as goal
 abbrev pub invariant-loop-p : goal.invariant-loop-p
 invariant-loop-p l =
     let types = map (parameter_type l.structs) in
-    l.kinds ++ types (drop l.p-index l.parameters) ≡ types l.parameters
+    l.c_types ++ types (drop l.p-index l.parameters) ≡ types l.parameters

@@ -25,10 +25,10 @@ suffixed-loop-x-preserved t c =
           ap (λ (a : Option Found). (rest a).found) c.in_ok-found.ensures.found
           ∙ sym (ap (λ (j : Judged Found). j.found) next)
           ∙ c.loop-x.invariant.found;
-      faults =
+      breaches =
           rest_noted (judged_suffix f structs s c.loop-x.found x) _ c.in_ok-found.found rest c.loop-x.self.breaches.items c.suffix.new.self.breaches.items
-          next c.in_ok-found.ensures.found c.in_ok-found.ensures.faults
-          ∙ c.loop-x.invariant.faults;
+          next c.in_ok-found.ensures.found c.in_ok-found.ensures.breaches
+          ∙ c.loop-x.invariant.breaches;
     }
 
 pub expression-returns-in_ok-a-in-Postfix : goal.expression-returns-in_ok-a-in-Postfix

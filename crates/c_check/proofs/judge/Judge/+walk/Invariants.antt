@@ -45,7 +45,7 @@ invariant-suffixed-loop-x l =
     let whole = among l.names judged_suffixes l.fn.a l.suffixes in
     record {
       found : rest.found ≡ whole.found;
-      faults : l.self.breaches.items ++ rest.faults ≡ l.fn.self.breaches.items ++ whole.faults;
+      breaches : l.self.breaches.items ++ rest.breaches ≡ l.fn.self.breaches.items ++ whole.breaches;
     }
 
 abbrev pub invariant-chain-loop-x : goal.invariant-chain-loop-x
@@ -54,7 +54,7 @@ invariant-chain-loop-x l =
     let whole = chain l.names.known.structs.now l.fn.first (among l.names judged_links l.links) in
     record {
       found : rest.found ≡ whole.found;
-      faults : l.self.breaches.items ++ rest.faults ≡ l.fn.self.breaches.items ++ whole.faults;
+      breaches : l.self.breaches.items ++ rest.breaches ≡ l.fn.self.breaches.items ++ whole.breaches;
     }
 
 abbrev pub invariant-expressions-loop-e : goal.invariant-expressions-loop-e

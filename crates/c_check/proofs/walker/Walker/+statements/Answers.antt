@@ -4,13 +4,13 @@ use Rattle.c_tree.specs.declared.tree.Stmt.{Stmt}
 use Rattle.c_kernel.specs.declared.program.Arm.{Arm}
 use Rattle.c_kernel.specs.declared.program.Stmt.{Stmt as Typed}
 use Rattle.c_kernel.specs.declared.program.Stmt.TheVariants as typed
-use Rattle.c_rules.specs.Judged.{of_part, perhaps}
+use Rattle.c_rules.specs.Judged.{perhaps}
 use Rattle.c_rules.specs.Scope.{scope_of}
 use Rattle.c_rules.proofs.Gathered.{joined}
-use Rattle.c_check.specs.Statement.{Walked, walk_as, one, start, values, printed, condition, simple, walked, later_arm, node_arm, walked_items, walked_guarded, walked_arm, walked_later, walked_for, walked_branches}
+use Rattle.c_check.specs.Statement.{Walked, walk_as, one, start, condition, simple, walked, later_arm, node_arm, walked_items, walked_guarded, walked_arm, walked_later, walked_for, walked_branches}
 use Rattle.c_check.specs.Told.{Leads, table, within}
-use Rattle.c_check.proofs.Bodies.{in_block, in_if, in_while, in_do, in_print, later_step, step_found, step_faults, step_scope}
-use Rattle.c_check.proofs.Steps.{led_same, led_staying, led_scoped, led_for}
+use Rattle.c_check.proofs.Bodies.{in_block, in_if, in_while, in_do, in_print, later_step, step_found, step_breaches, step_scope}
+use Rattle.c_check.proofs.Steps.{led_same, led_scoped, led_for}
 use Rattle.c_check.proofs.walker.Walker.+statements.Goals as goal
 
 -- ---- what the fold makes of a block, an if, a while and a do
@@ -52,13 +52,9 @@ statement-returns-in-DoWhile t c =
 pub statement-returns-in-Print : goal.statement-returns-in-Print
 statement-returns-in-Print t c =
     let a = c.args.around in
-    let f = table a.known in
-    let structs = a.known.structs.now in
-    let before = c.args.self.now in
-    let s = scope_of before.scope in
-    led_same c.print.result before (record { judge = c.print.new.self; scope = before.scope }) _ _
-    (sym (in_print f structs a.result_type c.in-Print.at c.in-Print.format c.in-Print.arguments c.args.s.now a.looping s c.in-Print.is))
-    (led_staying c.print.result before c.print.new.self (of_part (values f structs s c.in-Print.arguments) (printed c.in-Print.format)) c.print.ensures)
+    led_same c.print.result c.args.self.now c.print.new.self _ _
+    (sym (in_print (table a.known) a.known.structs.now a.result_type c.in-Print.at c.in-Print.format c.in-Print.arguments c.args.s.now a.looping (scope_of c.args.self.now.scope) c.in-Print.is))
+    c.print.ensures
 
 -- ---- a block and a for are left as they were entered
 
@@ -114,9 +110,9 @@ later_arms-loop-x-preserved t c =
       found = step_found w ws s inside c.loop-x.found c.in_ok-found.found c.in_ok-one.one whole.judged.found
           (subst (λ (v : Walked (List (Arm Typed))). joined c.loop-x.found v.judged.found ≡ whole.judged.found) next c.loop-x.invariant.found)
           c.in_ok-found.ensures c.in_ok-one.ensures.found c.in_ok-one.ensures.scope;
-      faults = step_faults w ws s inside c.loop-x.self.judge.breaches.items c.arm.new.self.judge.breaches.items (before.judge.breaches.items ++ whole.judged.faults)
-          (subst (λ (v : Walked (List (Arm Typed))). c.loop-x.self.judge.breaches.items ++ v.judged.faults ≡ before.judge.breaches.items ++ whole.judged.faults) next c.loop-x.invariant.faults)
-          c.in_ok-one.ensures.faults c.in_ok-one.ensures.scope;
+      breaches = step_breaches w ws s inside c.loop-x.self.judge.breaches.items c.arm.new.self.judge.breaches.items (before.judge.breaches.items ++ whole.judged.breaches)
+          (subst (λ (v : Walked (List (Arm Typed))). c.loop-x.self.judge.breaches.items ++ v.judged.breaches ≡ before.judge.breaches.items ++ whole.judged.breaches) next c.loop-x.invariant.breaches)
+          c.in_ok-one.ensures.breaches c.in_ok-one.ensures.scope;
       scope = step_scope w ws s inside whole.scope
           (subst (λ (v : Walked (List (Arm Typed))). v.scope ≡ whole.scope) next c.loop-x.invariant.scope)
           c.in_ok-one.ensures.scope;

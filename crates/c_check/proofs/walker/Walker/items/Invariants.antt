@@ -14,6 +14,6 @@ invariant-loop-x l =
     record {
       structs : all_structs l.structs (drop l.x-index l.items) ≡ all_structs first_structs l.items;
       found : joined l.found rest.found ≡ whole.found;
-      faults : l.self.judge.breaches.items ++ rest.faults ≡ l.fn.self.judge.breaches.items ++ whole.faults;
+      breaches : l.self.judge.breaches.items ++ rest.breaches ≡ l.fn.self.judge.breaches.items ++ whole.breaches;
       within : l.number ≤ l.x-index;
     }

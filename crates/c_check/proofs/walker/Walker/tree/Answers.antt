@@ -5,7 +5,7 @@ use Rattle.c_tree.specs.declared.tree.Item.{Item}
 use Rattle.c_kernel.specs.declared.program.Function.{Function}
 use Rattle.c_kernel.specs.declared.program.Program.{Program}
 use Rattle.c_kernel.specs.declared.types.Struct.{Struct}
-use Rattle.c_rules.specs.declared.fault.Fault.{Fault}
+use Rattle.c_rules.specs.declared.breach.Breach.{Breach}
 use Rattle.c_rules.specs.declared.signature.Signature.{Signature}
 use Rattle.c_rules.specs.Judged.{Judged, both, pair_of}
 use Rattle.c_rules.specs.Rules.{main_name}
@@ -31,8 +31,8 @@ same_table f xs ys items length e p q =
     ∙ ap (λ (zs : List Item). by_table (signatures first_structs 0 items) zs length) q
 
 -- what is noted in order
-noted : (before first second a b : List Fault) → first ≡ before ++ a → second ≡ first ++ b → second ≡ before ++ (a ++ b)
-noted before first second a b p q = q ∙ ap (λ (fs : List Fault). fs ++ b) p ∙ append_assoc before a b
+noted : (before first second a b : List Breach) → first ≡ before ++ a → second ≡ first ++ b → second ≡ before ++ (a ++ b)
+noted before first second a b p q = q ∙ ap (λ (fs : List Breach). fs ++ b) p ∙ append_assoc before a b
 
 pub returns : goal.returns
 returns c =
@@ -47,9 +47,9 @@ returns c =
           ∙ ap (λ (o : Option (List Function)). option_map (program (all_structs first_structs c.args.tree.now.items) any) (both o c.in_ok-main.main)) c.in_ok-defined.ensures.told.found
           ∙ ap (λ (o : Option ℕ). option_map (program (all_structs first_structs c.args.tree.now.items) any) (both (items_judged f first_structs 0 items).found o)) c.in_ok-main.ensures.found
           ∙ ap (λ (j : Judged (List Function × ℕ)). option_map (program (all_structs first_structs c.args.tree.now.items) any) j.found) same;
-      faults =
+      breaches =
           noted c.args.self.now.judge.breaches.items c.items.new.self.judge.breaches.items c.main_of.new.self.breaches.items
-          (items_judged f first_structs 0 items).faults (main_in c.args.tree.now.length (number_in (f main_name))).faults
-          c.in_ok-defined.ensures.told.faults c.in_ok-main.ensures.faults
-          ∙ ap (λ (j : Judged (List Function × ℕ)). c.args.self.now.judge.breaches.items ++ j.faults) same;
+          (items_judged f first_structs 0 items).breaches (main_in c.args.tree.now.length (number_in (f main_name))).breaches
+          c.in_ok-defined.ensures.told.breaches c.in_ok-main.ensures.breaches
+          ∙ ap (λ (j : Judged (List Function × ℕ)). c.args.self.now.judge.breaches.items ++ j.breaches) same;
     }

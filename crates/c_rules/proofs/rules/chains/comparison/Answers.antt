@@ -5,4 +5,4 @@ use Rattle.c_rules.proofs.rules.chains.comparison.Goals as goal
 
 pub returns-then-len-before-clause-found : goal.returns-then-len-before-clause-found
 unfolding comparison
-returns-then-len-before-clause-found c = rw (sym c.get.ensures, sym c.get-2.ensures) (none_found c.args.faults.now.items c.note_comparison.new.faults.items _ _ c.in_ok-note_comparison.ensures (omega (arith, c.len-before.ensures, c.len.ensures)))
+returns-then-len-before-clause-found c = rw (sym c.get.ensures, sym c.get-2.ensures) (none_found c.args.breaches.now.items c.note_comparison.new.breaches.items _ _ c.in_ok-note_comparison.ensures (omega (arith, c.len-before.ensures, c.len.ensures)))
