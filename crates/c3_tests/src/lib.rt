@@ -16,8 +16,6 @@ mod messages;
 #[cfg(test)]
 mod passed;
 #[cfg(test)]
-mod pointers;
-#[cfg(test)]
 mod printed;
 #[cfg(test)]
 mod queues;

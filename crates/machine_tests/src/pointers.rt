@@ -1,6 +1,7 @@
 //! Pointers, arrays, structs and the heap: programs with what gcc prints, and the meaning that C leaves open.
 
-use crate::rows::assert_rows;
+use crate::rows::assert_runs;
+use crate::team::written;
 use std::test::Fail;
 
 // Standard programs. The expected output is that of gcc.
@@ -49,7 +50,7 @@ int main(void){int k=0;long *p=malloc(sizeof(long));for(int i=0;i<70000;i++){fre
 int max(int *a,int n){int m,t;if(n==1)return *a;m=max(a+1,n-1);t=a[0];return t>m?t:m;}int main(void){int a[7],i,m;for(i=0;i<7;i++)a[i]=(i*5+3)%7*11;m=max(a,7);printf("%d\n",m);return m;}@rank 0 exit 66 bytes 3⏎66⏎finished⏎
 int strcmp_(char *a,char *b){while(*a&&*a==*b){a++;b++;}return *a-*b;}int main(void){char a[4],b[4];int r,s;a[0]='a';a[1]='b';a[2]='c';a[3]=0;b[0]='a';b[1]='b';b[2]='d';b[3]=0;r=strcmp_(a,b);b[2]='c';s=strcmp_(a,b);printf("%d %d\n",r,s);return 0;}@rank 0 exit 0 bytes 5⏎-1 0⏎finished⏎
 "#;
-    assert_rows(&rt, rt.alloc(), "plain 1", "", table)
+    assert_runs(&rt, rt.alloc(), table)
 }
 
 // Each fault at its operation, and what was printed before it. The expected answers are worked out by hand.
@@ -120,5 +121,24 @@ int main(void){int a[8191];a[8190]=1;printf("%d\n",a[8190]);return 0;}@rank 0 ex
 int main(void){int a[8192];return 0;}@rank 0 fault 108 bytes 0⏎finished⏎
 void f(void){char b[192];}int main(void){int a[8000];printf("a");f();return 0;}@rank 0 fault 108 bytes 1⏎afinished⏎
 "#;
-    assert_rows(&rt, rt.alloc(), "plain 1", "", table)
+    assert_runs(&rt, rt.alloc(), table)
+}
+
+// By first fit among 65,536 cells. The source's meaning goes by the number of live cells alone.
+#[test]
+fn null_comes_where_no_place_fits(rt: HostRuntime) -> Result<(), Fail> {
+    let table = r#"
+p=malloc(40000*8L);q=malloc(20000*8L);free(p);p=malloc(45000*8L);printf("%d",p==NULL);p=malloc(40000*8L);printf("%d",p==NULL);q=malloc(5536*8L);printf("%d",q==NULL);q=malloc(8);printf("%d\n",q==NULL);@1001
+p=malloc(30000*8L);q=malloc(30000*8L);free(p);p=malloc(10000*8L);long *r=malloc(20001*8L);printf("%d",r==NULL);r=malloc(20000*8L);printf("%d",r==NULL);free(q);q=malloc(35536*8L);printf("%d\n",q==NULL);@100
+p=malloc(65536*8L);free(p);q=malloc(65536*8L);printf("%d",q==NULL);p=malloc(0);printf("%d\n",p==NULL);@01
+"#;
+    for line in table.trim().lines() {
+        let (body, answer) = line.split_once('@').expect(&rt, "a marked line");
+        let input = format!(in rt.alloc(); "int main(void){{long *p,*q;{body}return 0;}}")?;
+        let bytes = answer.len() + 1;
+        let text = format!(in rt.alloc(); "rank 0 exit 0 bytes {bytes}\n{answer}\nfinished\n")?;
+        let placed = written(rt.alloc(), 1, input.as_bytes())?;
+        assert_eq!(rt; placed.as_slice(), text.as_bytes(), "at {body}");
+    }
+    Ok(())
 }
