@@ -41,7 +41,11 @@ pub fn assert_run(
     assert_eq!(rt; plain.as_slice(), answer.as_bytes(), "at {input}");
     let number = ranks.parse::<u16>().expect(rt, "a number");
     let placed = written(alloc, number, input.as_bytes())?;
-    assert_eq!(rt; placed.as_slice(), answer.as_bytes(), "by machines at {input}");
+    assert_eq!(rt;
+        placed.as_slice(),
+        answer.as_bytes(),
+        "by machines at {input}"
+    );
     Ok(())
 }
 
