@@ -195,6 +195,8 @@ fn calls_fail_as_planned(rt: HostRuntime) -> Result<(), Fail> {
 4; w0:abcd s c2 r/short/r@!abcd|ab|
 1,4; w0:ab w0:ab s w2:c r@!!abc|
 ;0 r s l@!!!
+;1 w0:abc r l@!!!
+;3 w0:abcd c2 r@!!
 ;2 w0:abc r w0:x s l c0/old/r@!!!!!|
 "#;
     assert_lines(&rt, rt.alloc(), table)
