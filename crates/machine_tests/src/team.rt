@@ -11,16 +11,27 @@ use mpi_words::{End, Op, Reply, Want};
 use rank_machine::Machine;
 use sqlite_items::Boxed;
 use std::alloc::Global;
+use std::marker::Model;
 use std::rc::Rc;
 use std::test::Fail;
 
-/// A rank: its machine, what it has printed, and how it ended.
+/// A rank: its machine, which isn't in restart mode, what it has printed, and how it ended.
 #[derive(Drop)]
 struct Member {
     rank: u16,
     machine: Machine,
     output: Vec<u8>,
     end: Option<End>,
+}
+
+impl Model for Member {
+    ghost use Rattle.std.specs.Prelude.{◌≡◌, ℕ, None};
+
+    ghost Value = { ℕ };
+
+    ghost view = { λ m. m.rank };
+
+    ghost invariant = { λ m. m.machine.left ≡ None };
 }
 
 impl Member {
