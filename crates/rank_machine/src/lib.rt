@@ -19,3 +19,4 @@ mod store;
 mod turn;
 
 pub use machine::Machine;
+pub use reenter::place_named;

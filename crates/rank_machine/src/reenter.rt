@@ -99,8 +99,8 @@ impl Parts {
     }
 }
 
-// The place of a site.
-fn place_named(sites: &[Site], number: u32) -> Option<usize>
+/// The place of the site with a number.
+pub fn place_named(sites: &[Site], number: u32) -> Option<usize>
     ensures { result ≡ place_named sites.now number }
 {
     for s in sites {

@@ -1,0 +1,5 @@
+pub mod Walks
+pub mod News
+pub mod Leads
+pub mod Breaches
+pub mod Comes
