@@ -1,0 +1,10 @@
+mod Fits
+mod LoweredFits
+mod PassedFits
+mod Alike
+mod Rooms
+mod Steps
+mod Takes
+mod Apart
+mod Restarted
+mod Solid

@@ -1,0 +1,3 @@
+pub mod Spaced
+pub mod Settled
+pub mod Objects

@@ -1,0 +1,4 @@
+//! Laws of the turns of machines.
+#![tactic(auto)]
+
+pub mod law;
