@@ -50,6 +50,14 @@ GoesTo n (done.Printed text) = Unit {0}
 GoesTo n done.Took = Unit {0}
 GoesTo n done.Marked = Unit {0}
 
+-- a rank that did a mark stands just past it
+abbrev pub AtMark : {S : Type 0} → (S → Type 0) → S → Done → Type 0
+AtMark marked s done.Nothing = Unit {0}
+AtMark marked s (done.Sent to message) = Unit {0}
+AtMark marked s (done.Printed text) = Unit {0}
+AtMark marked s done.Took = Unit {0}
+AtMark marked s done.Marked = marked s
+
 -- the member after a turn t from the rank v, that had made so many operations
 pub record MakesTurn {S : Type 0} (ended : S → Option End) (bytes among : S → ℕ) (n before : ℕ) (m : Member S) (made : Done) (v : Replaying S) (t : Turned S) : Type 0 where
   pub did : did_of made ≡ t.did

@@ -64,3 +64,11 @@ bytes_of_op Mark = 0
 abbrev pub bytes_of : Option Op → ℕ
 bytes_of None = 0
 bytes_of (Some op) = bytes_of_op op
+
+-- whether it is a mark
+abbrev pub IsMark : Option Op → Type 0
+IsMark None = ⊥
+IsMark (Some (Send to message)) = ⊥
+IsMark (Some (Receive patterns)) = ⊥
+IsMark (Some (Output text)) = ⊥
+IsMark (Some Mark) = Unit {0}

@@ -7,8 +7,8 @@ ghost use Rattle.core_laws.specs.Pausing.{step_turn};
 ghost use Rattle.core_laws.specs.Replay.{Replaying, absorb, may_turn};
 ghost use Rattle.core_laws.specs.Core.{restores, accepts, landed};
 ghost use Rattle.core_laws.specs.CoreTies.{Running, IsRunning};
-ghost use Rattle.job_network.specs.Wants.{Answers, FitsOp, most_bytes};
-ghost use Rattle.job_network.specs.Members.{begins_late, IsCompleted, IsMember, MakesTurn, stepping_of, running_of};
+ghost use Rattle.job_network.specs.Wants.{Answers, FitsOp, IsMark, most_bytes};
+ghost use Rattle.job_network.specs.Members.{begins_late, AtMark, IsCompleted, IsMember, MakesTurn, stepping_of, running_of};
 
 use crate::process::Process;
 use crate::queues::Queue;
@@ -72,7 +72,8 @@ impl<P> Member<P> {
 
     /// A message arrives, by which a rank that restores goes on in its log.
     pub fn arrive(&mut self, source: u16, message: Message) -> Result<(), NoMemory>
-        ensures { (v : Replaying P) → IsRunning (running_of self.old) v → OnOk result (IsRunning (running_of self.new) (landed v v.log source message)) }
+        ensures lands { (v : Replaying P) → IsRunning (running_of self.old) v → OnOk result (IsRunning (running_of self.new) (landed v v.log source message)) }
+        ensures same { OnOk result ((self.new.ops ≡ self.old.ops) × (self.new.end ≡ self.old.end)) }
     {
         self.mail.arrive(source, message)?;
         if self.log.pop().is_none() {
@@ -90,7 +91,8 @@ impl<P> Member<P> {
 
     // Late entries at the log's front arrive at once.
     fn absorb(&mut self) -> Result<(), NoMemory>
-        ensures { (v : Replaying P) → IsRunning (running_of self.old) v → OnOk result (IsRunning (running_of self.new) (absorb v.left v.rank v.log)) }
+        ensures lands { (v : Replaying P) → IsRunning (running_of self.old) v → OnOk result (IsRunning (running_of self.new) (absorb v.left v.rank v.log)) }
+        ensures same { OnOk result ((self.new.ops ≡ self.old.ops) × (self.new.end ≡ self.old.end)) }
     {
         while self.has_late() {
             if let Some(Entry::Late { source, message }) = self.log.pop() {
@@ -108,7 +110,9 @@ impl<P: Process> Member<P> {
         requires serial { P.serial self.old.machine < 2 ^ 62 }
         requires end { self.old.end ≡ P.ended self.old.machine }
         requires bytes { P.bytes self.old.machine ≡ self.old.bytes }
-        ensures { (n : ℕ) (begin : ℕ → P) (v : Replaying P) → IsMember P.ended P.bytes P.among n self.old v → IfOk result (λ did. MakesTurn P.ended P.bytes P.among n self.old.ops self.new did v (step_turn (stepping_of begin P.turned P.answered P.again) v.rank)) }
+        ensures made { (n : ℕ) (begin : ℕ → P) (v : Replaying P) → IsMember P.ended P.bytes P.among n self.old v → IfOk result (λ did. MakesTurn P.ended P.bytes P.among n self.old.ops self.new did v (step_turn (stepping_of begin P.turned P.answered P.again) v.rank)) }
+        ensures serial { IfOk result (λ did. P.serial self.new.machine ≤ P.serial self.old.machine + 2 ^ 25 + 2 ^ 17) }
+        ensures marked { IfOk result (AtMark P.marked self.new.machine) }
     {
         if self.end.is_some() {
             return Ok(Did::Nothing);
@@ -129,7 +133,9 @@ impl<P: Process> Member<P> {
         requires pending { P.pending self.old.machine ≡ Some op }
         requires end { P.ended self.old.machine ≡ None }
         requires fits { (n : ℕ) × FitsOp n self.old.bytes op }
-        ensures { (n : ℕ) (v : Replaying P) → IsMember P.ended P.bytes P.among n self.old v → FitsOp n self.old.bytes op → IfOk result (λ did. MakesTurn P.ended P.bytes P.among n self.old.ops self.new did v (ranks.acted P.answered v.rank (ranks.Wants op))) }
+        ensures made { (n : ℕ) (v : Replaying P) → IsMember P.ended P.bytes P.among n self.old v → FitsOp n self.old.bytes op → IfOk result (λ did. MakesTurn P.ended P.bytes P.among n self.old.ops self.new did v (ranks.acted P.answered v.rank (ranks.Wants op))) }
+        ensures serial { IfOk result (λ did. P.serial self.new.machine ≤ P.serial self.old.machine) }
+        ensures marked { IfOk result (AtMark P.marked self.new.machine) }
     {
         match op {
             Op::Send { to, message } => {
@@ -150,7 +156,9 @@ impl<P: Process> Member<P> {
         requires ops { self.old.ops + 1 < 2 ^ 64 }
         requires pending { P.pending self.old.machine ≡ Some (Receive patterns.now) }
         requires patterns { 0 < length patterns.now }
-        ensures { (n : ℕ) (v : Replaying P) → IsMember P.ended P.bytes P.among n self.old v → IfOk result (λ did. MakesTurn P.ended P.bytes P.among n self.old.ops self.new did v (ranks.acted P.answered v.rank (ranks.Wants (Receive patterns.now)))) }
+        ensures made { (n : ℕ) (v : Replaying P) → IsMember P.ended P.bytes P.among n self.old v → IfOk result (λ did. MakesTurn P.ended P.bytes P.among n self.old.ops self.new did v (ranks.acted P.answered v.rank (ranks.Wants (Receive patterns.now)))) }
+        ensures serial { IfOk result (λ did. P.serial self.new.machine ≤ P.serial self.old.machine) }
+        ensures marked { IfOk result (AtMark P.marked self.new.machine) }
     {
         match self.mail.take(patterns.as_slice())? {
             None => Ok(Did::Nothing),
@@ -166,7 +174,9 @@ impl<P: Process> Member<P> {
         requires ops { self.old.ops + 1 < 2 ^ 64 }
         requires pending { P.pending self.old.machine ≡ Some (Output text) }
         requires bytes { self.old.bytes + length text ≤ most_bytes }
-        ensures { (n : ℕ) (v : Replaying P) → IsMember P.ended P.bytes P.among n self.old v → IfOk result (λ did. MakesTurn P.ended P.bytes P.among n self.old.ops self.new did v (ranks.acted P.answered v.rank (ranks.Wants (Output text)))) }
+        ensures made { (n : ℕ) (v : Replaying P) → IsMember P.ended P.bytes P.among n self.old v → IfOk result (λ did. MakesTurn P.ended P.bytes P.among n self.old.ops self.new did v (ranks.acted P.answered v.rank (ranks.Wants (Output text)))) }
+        ensures serial { IfOk result (λ did. P.serial self.new.machine ≤ P.serial self.old.machine) }
+        ensures marked { IfOk result (AtMark P.marked self.new.machine) }
     {
         let count = text.as_slice().len() as u32;
         self.complete(Reply::Done)?;
@@ -178,7 +188,9 @@ impl<P: Process> Member<P> {
     fn complete(&mut self, reply: Reply) -> Result<(), NoMemory>
         requires ops { self.old.ops + 1 < 2 ^ 64 }
         requires reply { Answers (P.pending self.old.machine) reply }
-        ensures { OnOk result (IsCompleted P.answered P.ended P.bytes P.among P.pending reply self.old self.new) }
+        ensures completed { OnOk result (IsCompleted P.answered P.ended P.bytes P.among P.pending reply self.old self.new) }
+        ensures serial { OnOk result (P.serial self.new.machine ≤ P.serial self.old.machine) }
+        ensures marked { OnOk result (IsMark (P.pending self.old.machine) → P.marked self.new.machine) }
     {
         self.end = self.machine.answer(reply)?;
         self.ops += 1;

@@ -16,8 +16,8 @@ operate-requires-clause-fits g c =
     let among = g.P.Process.among c.args.self.now.machine in
     (among, subst (λ b. FitsOp among b c.in-Wants.op) c.requires.bytes (subst (Fits among (g.P.Process.bytes c.args.self.now.machine)) c.in-Wants.is c.in_ok-turn.ensures.fits))
 
-pub returns-in-Wants : goal.returns-in-Wants
-returns-in-Wants g c n begin v h =
+pub returns-in-Wants-clause-made : goal.returns-in-Wants-clause-made
+returns-in-Wants-clause-made g c n begin v h =
     let P : Stepping g.row.P.Denot = stepping_of begin g.P.Process.turned g.P.Process.answered g.P.Process.again in
     let u : Replaying g.row.P.Denot = record v { rank = with_machine v.rank c.turn.new.self } in
     let is : IsMember g.P.Process.ended g.P.Process.bytes g.P.Process.among n (record c.args.self.now { machine = c.turn.new.self }) u = record {
@@ -35,4 +35,4 @@ returns-in-Wants g c n begin v h =
     (λ did. MakesTurn g.P.Process.ended g.P.Process.bytes g.P.Process.among n c.args.self.now.ops c.operate.new.self did v (step_turn P v.rank))
     (λ did made. subst (MakesTurn g.P.Process.ended g.P.Process.bytes g.P.Process.among n c.args.self.now.ops c.operate.new.self did v) (sym (turn_wants P v.rank c.turn.new.self c.in-Wants.op turned))
     (record { did = made.did; printed = made.printed; goes = made.goes; ops = made.ops; member = made.member }))
-    (c.operate.ensures n u is fits)
+    (c.operate.ensures.made n u is fits)
