@@ -4,7 +4,7 @@ ghost use Rattle.std.specs.Prelude.{◌≡◌, ◌≢◌, ◌+◌, ◌*◌, ◌�
 ghost use Rattle.c3_io.specs.Faults.{HasCause};
 ghost use Rattle.disk_model.specs.Disk.{IsStable};
 ghost use Rattle.disk_model.specs.Runs.{Keeps};
-ghost use Rattle.line_store.specs.declared.fault.StoreFault.TheVariants.{NoMemory};
+ghost use Rattle.line_store.specs.declared.fault.StoreFault.TheVariants.{DiskFault, NoMemory};
 ghost use Rattle.line_store.specs.Answers.{HasReason, IsPlain};
 ghost use Rattle.line_store.specs.Held.{Standing, reading_of, ended_with, IsHeld, Makes, IsEndReady};
 ghost use Rattle.line_store.specs.Reading.{output_file, ranks_of, reading};
@@ -61,6 +61,7 @@ pub fn finish<D: Disk>(alloc: Global, disk: &mut D, ends: &[End]) -> Result<(), 
     ensures durable { D.told → OnOk result (IsStable (D.view disk.new) 4) }
     ensures not_begun { D.told → IsErrOf result NoMemory → Keeps (D.view disk.old) (D.view disk.new) }
     ensures cause { HasReason (D.faults disk.old) (D.faults disk.new) result }
+    ensures no_fault { IfErr result (λ fault. fault ≢ DiskFault → D.faults disk.new ≡ D.faults disk.old) }
     ensures kind { IfErr result IsPlain }
 {
     let text = write_ends(alloc, ends)?;

@@ -1,9 +1,9 @@
 //! A new job.
 
-ghost use Rattle.std.specs.Prelude.{◌≡◌, ◌+◌, ◌*◌, ◌≤◌, ◌<◌, OnOk, IsErrOf, IsTrue, List, ℕ};
+ghost use Rattle.std.specs.Prelude.{◌≡◌, ◌≢◌, ◌+◌, ◌*◌, ◌≤◌, ◌<◌, OnOk, IfErr, IsErrOf, IsTrue, List, ℕ, true};
 ghost use Rattle.c3_io.specs.Faults.{HasCause};
 ghost use Rattle.disk_model.specs.Runs.{LeavesOnly, Keeps};
-ghost use Rattle.line_store.specs.declared.fault.StoreFault.TheVariants.{JobThere, NoMemory};
+ghost use Rattle.line_store.specs.declared.fault.StoreFault.TheVariants.{DiskFault, NoMemory};
 ghost use Rattle.line_store.specs.Answers.{HasReason, IsMade};
 ghost use Rattle.line_store.specs.Held.{IsSafe};
 ghost use Rattle.line_store.specs.Reading.{opens_gate, output_file};
@@ -88,7 +88,7 @@ pub fn make_job<D: Disk>(alloc: Global, disk: &mut D, job: &Job) -> Result<(), S
     requires files { 5 * job.now.ranks + 5 ≤ D.files }
     requires fits { IsTrue (job_form.fits job.now) }
     ensures there { D.told → IsMade (opens_gate ((D.view disk.old).seen 1)) result }
-    ensures unchanged { D.told → IsErrOf result JobThere → Keeps (D.view disk.old) (D.view disk.new) }
+    ensures kept { D.told → opens_gate ((D.view disk.old).seen 1) ≡ true → Keeps (D.view disk.old) (D.view disk.new) }
     ensures not_begun { D.told → IsErrOf result NoMemory → Keeps (D.view disk.old) (D.view disk.new) }
 
     // Where the gate was closed, a stop at any moment leaves it closed, or the job with line 0.
@@ -97,6 +97,7 @@ pub fn make_job<D: Disk>(alloc: Global, disk: &mut D, job: &Job) -> Result<(), S
     ensures made { D.told → OnOk result (IsNew job.now.ranks (job_form.text job.now) (D.view disk.new)) }
     ensures safe { D.told → OnOk result (IsSafe (job_form.text job.now) (D.view disk.new)) }
     ensures cause { HasReason (D.faults disk.old) (D.faults disk.new) result }
+    ensures no_fault { IfErr result (λ fault. fault ≢ DiskFault → D.faults disk.new ≡ D.faults disk.old) }
 {
     let text = write_job(alloc, job)?;
     if byte_at(disk, 1, 0)? == 0x4A {

@@ -1,6 +1,6 @@
 //! What is read of a job's files.
 
-ghost use Rattle.std.specs.Prelude.{◌≡◌, ◌≤◌, ◌<◌, ◌+◌, ◌*◌, IfOk, IfErr, IsTrue, OnOk, List, ℕ, length, true};
+ghost use Rattle.std.specs.Prelude.{◌≡◌, ◌≢◌, ◌≤◌, ◌<◌, ◌+◌, ◌*◌, IfOk, IfErr, IsTrue, OnOk, List, ℕ, length, true};
 ghost use Rattle.c3_io.specs.Faults.{HasCause};
 ghost use Rattle.disk_model.specs.Runs.{Keeps};
 ghost use Rattle.image_text.specs.Texts.{image_form};
@@ -31,6 +31,7 @@ fn whole_file<D: Disk>(alloc: Global, disk: &mut D, file: u32) -> Result<Vec<u8>
     ensures bytes { D.told → IfOk result (λ bytes. bytes.items ≡ (D.view disk.old).seen file) }
     ensures keeps { D.told → Keeps (D.view disk.old) (D.view disk.new) }
     ensures cause { HasReason (D.faults disk.old) (D.faults disk.new) result }
+    ensures no_fault { IfErr result (λ fault. fault ≢ DiskFault → D.faults disk.new ≡ D.faults disk.old) }
     ensures kind { IfErr result IsPlain }
 {
     let mut bytes = Vec::new(alloc);
@@ -66,6 +67,7 @@ pub fn find_job<D: Disk>(alloc: Global, disk: &mut D) -> Result<Job, StoreFault>
     ensures none { D.told → IfErr result (IsNoJob (opens_gate ((D.view disk.old).seen 1)) ((D.view disk.old).seen 0)) }
     ensures keeps { D.told → Keeps (D.view disk.old) (D.view disk.new) }
     ensures cause { HasReason (D.faults disk.old) (D.faults disk.new) result }
+    ensures no_fault { IfErr result (λ fault. fault ≢ DiskFault → D.faults disk.new ≡ D.faults disk.old) }
 {
     let gate = byte_at(disk, 1, 0)?;
     if gate != 0x4A {
@@ -84,6 +86,7 @@ pub fn read_ends<D: Disk>(alloc: Global, disk: &mut D, ranks: u16) -> Result<Vec
     ensures damaged { D.told → IfErr result (Refused (IsWrong (ends_form ranks) 3 ((D.view disk.old).seen 3))) }
     ensures keeps { D.told → Keeps (D.view disk.old) (D.view disk.new) }
     ensures cause { HasReason (D.faults disk.old) (D.faults disk.new) result }
+    ensures no_fault { IfErr result (λ fault. fault ≢ DiskFault → D.faults disk.new ≡ D.faults disk.old) }
 {
     let bytes = whole_file(alloc, disk, 3)?;
     let ends = ends_of(alloc, &bytes, ranks)?;
@@ -101,6 +104,7 @@ pub fn read_output<D: Disk>(alloc: Global, disk: &mut D, rank: u16) -> Result<Ve
     ensures long { D.told → IfErr result (Refused (λ file at. (file ≡ output_file rank) × (at ≡ 1048576) × (1048576 < length ((D.view disk.old).seen (output_file rank))))) }
     ensures keeps { D.told → Keeps (D.view disk.old) (D.view disk.new) }
     ensures cause { HasReason (D.faults disk.old) (D.faults disk.new) result }
+    ensures no_fault { IfErr result (λ fault. fault ≢ DiskFault → D.faults disk.new ≡ D.faults disk.old) }
 {
     let file = 5 + 5 * u32::from(rank);
     let length = disk.length(file)?;
@@ -127,6 +131,7 @@ fn load_image<D: Disk>(
     ensures wrong { D.told → IfErr result (Refused (IsWrong image_form (image_file rank line) ((D.view disk.old).seen (image_file rank line)))) }
     ensures keeps { D.told → Keeps (D.view disk.old) (D.view disk.new) }
     ensures cause { HasReason (D.faults disk.old) (D.faults disk.new) result }
+    ensures no_fault { IfErr result (λ fault. fault ≢ DiskFault → D.faults disk.new ≡ D.faults disk.old) }
 {
     let file = 6 + 5 * u32::from(rank) + u32::from(line % 2);
     let bytes = whole_file(alloc, disk, file)?;
@@ -148,6 +153,7 @@ fn load_log<D: Disk>(alloc: Global, disk: &mut D, rank: u16, line: u16) -> Resul
     ensures wrong { D.told → IfErr result (Refused (IsWrong log_form (log_file rank line) ((D.view disk.old).seen (log_file rank line)))) }
     ensures keeps { D.told → Keeps (D.view disk.old) (D.view disk.new) }
     ensures cause { HasReason (D.faults disk.old) (D.faults disk.new) result }
+    ensures no_fault { IfErr result (λ fault. fault ≢ DiskFault → D.faults disk.new ≡ D.faults disk.old) }
 {
     let file = 8 + 5 * u32::from(rank) + u32::from(line % 2);
     let bytes = whole_file(alloc, disk, file)?;
@@ -174,6 +180,7 @@ fn load_images<D: Disk>(
     ensures wrong { D.told → IfErr result (Refused (IsImageWrong (D.view disk.old).seen ranks line)) }
     ensures keeps { D.told → Keeps (D.view disk.old) (D.view disk.new) }
     ensures cause { HasReason (D.faults disk.old) (D.faults disk.new) result }
+    ensures no_fault { IfErr result (λ fault. fault ≢ DiskFault → D.faults disk.new ≡ D.faults disk.old) }
 {
     let mut images = Vec::new(alloc);
     for rank in 0..ranks {
@@ -195,6 +202,7 @@ fn load_logs<D: Disk>(
     ensures wrong { D.told → IfErr result (Refused (IsLogWrong (D.view disk.old).seen ranks line)) }
     ensures keeps { D.told → Keeps (D.view disk.old) (D.view disk.new) }
     ensures cause { HasReason (D.faults disk.old) (D.faults disk.new) result }
+    ensures no_fault { IfErr result (λ fault. fault ≢ DiskFault → D.faults disk.new ≡ D.faults disk.old) }
 {
     let mut logs = Vec::new(alloc);
     for rank in 0..ranks {
@@ -220,6 +228,7 @@ pub fn load_line<D: Disk>(
     ensures well { D.told → (text : List ℕ) → (s : Standing) → IsHeld text (D.view disk.old) s → job.now.ranks ≡ ranks_of text → line ≡ s.line → 0 < line → AreWell (ranks_of text) s → IfErr result IsPlain }
     ensures keeps { D.told → Keeps (D.view disk.old) (D.view disk.new) }
     ensures cause { HasReason (D.faults disk.old) (D.faults disk.new) result }
+    ensures no_fault { IfErr result (λ fault. fault ≢ DiskFault → D.faults disk.new ≡ D.faults disk.old) }
 {
     let images = load_images(alloc, disk, job.ranks, line)?;
     let logs = load_logs(alloc, disk, job.ranks, line)?;

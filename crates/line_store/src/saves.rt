@@ -44,6 +44,7 @@ pub fn save_local<D: Disk>(alloc: Global, disk: &mut D, image: &Image) -> Result
     ensures others { D.told → Spares (image_file image.now.rank image.now.line) (D.view disk.old) (D.view disk.new) }
     ensures settled { D.told → IsSettled (D.view disk.old) → IsSettled (D.view disk.new) }
     ensures cause { HasReason (D.faults disk.old) (D.faults disk.new) result }
+    ensures no_fault { IfErr result (λ fault. fault ≢ DiskFault → D.faults disk.new ≡ D.faults disk.old) }
     ensures kind { IfErr result IsPlain }
 {
     let text = write_image(alloc, image)?;
@@ -78,6 +79,7 @@ pub fn save_log<D: Disk>(alloc: Global, disk: &mut D, log: &Log) -> Result<(), S
     ensures others { D.told → Spares (log_file log.now.rank log.now.line) (D.view disk.old) (D.view disk.new) }
     ensures settled { D.told → IsSettled (D.view disk.old) → IsSettled (D.view disk.new) }
     ensures cause { HasReason (D.faults disk.old) (D.faults disk.new) result }
+    ensures no_fault { IfErr result (λ fault. fault ≢ DiskFault → D.faults disk.new ≡ D.faults disk.old) }
     ensures kind { IfErr result IsPlain }
 {
     let text = write_log(alloc, log)?;
