@@ -3,3 +3,7 @@ pub mod News
 pub mod Leads
 pub mod Breaches
 pub mod Comes
+pub mod Standings
+pub mod Beginnings
+pub mod Turned
+pub mod Answered

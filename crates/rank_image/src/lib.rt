@@ -4,6 +4,7 @@
 mod back;
 mod fault;
 mod objects;
+mod process;
 mod rows;
 mod sites;
 mod spans;
@@ -11,4 +12,5 @@ mod variables;
 
 pub use back::restore;
 pub use fault::RestoreFault;
+pub use process::RankProcess;
 pub use rows::breach;

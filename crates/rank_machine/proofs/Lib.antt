@@ -7,6 +7,7 @@ mod Memories
 mod Frames
 mod Nothing
 mod Turns
+mod Counted
 mod Kept
 mod Readiness
 mod Descriptions

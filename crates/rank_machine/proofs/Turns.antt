@@ -49,7 +49,7 @@ asked_goes : (functions : List FlatFunction) (refuses : Memory → ℕ → Bool)
 asked_goes functions refuses m l None h = newest_goes functions refuses m l m.frames h
 asked_goes functions refuses m l (Some q) h = absurd cc
 
-begun_goes : (functions : List FlatFunction) (p : Placing) → begins functions p ≡ true → is_last (stepped functions p) ≡ false
+pub begun_goes : (functions : List FlatFunction) (p : Placing) → begins functions p ≡ true → is_last (stepped functions p) ≡ false
 begun_goes functions p h = asked_goes functions (none_fits p.heap) p.machine (laid_after functions p) p.machine.asked h
 
 -- ---- a step with what it leaves where
@@ -78,7 +78,7 @@ pub record Stepped (functions : List FlatFunction) (p q : Placing) (did : Step) 
   pub laid : goes_on did ≡ true → laid q ≡ laid_after functions p
   pub wanted : IsWanted want did q
 
-one_step : (functions : List FlatFunction) (p q : Placing) (did : Step) (want : Option Want) → Stepped functions p q did want → act_by did q ≡ stepped functions p
+pub one_step : (functions : List FlatFunction) (p q : Placing) (did : Step) (want : Option Want) → Stepped functions p q did want → act_by did q ≡ stepped functions p
 one_step functions p q did want s = by_outcome did q ∙ laid_if (laid q) (laid_after functions p) did q (goes_on did) refl s.laid ∙ ap (placed (laid_after functions p)) s.outcome
 
 -- a turn that goes on, or has come to an end

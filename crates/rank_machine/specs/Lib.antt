@@ -3,6 +3,7 @@ pub mod Layout
 pub mod Tied
 pub mod State
 pub mod Placing
+pub mod Turning
 pub mod Running
 pub mod Saving
 pub mod Resumed

@@ -6,13 +6,14 @@ ghost use Rattle.mpi_words.specs.declared.operation.Want.TheVariants.{Ended};
 ghost use Rattle.flat_code.specs.declared.code.Code as code;
 ghost use Rattle.flat_code.specs.Machine.{answered, seat_of, start};
 ghost use Rattle.flat_code.specs.Restart.{IsAtMark, LeadsTo, put_back, reenter, restarting};
-ghost use Rattle.rank_machine.specs.Placing.{IsTurn, end_by, end_in, laid, laid_in};
+ghost use Rattle.rank_machine.specs.Placing.{IsTurn, act_of, end_by, end_in, laid, laid_in};
 ghost use Rattle.rank_machine.specs.Returning.{IsReturning, is_at_mark, restarting_of};
 ghost use Rattle.rank_machine.specs.Running.{state_of};
 ghost use Rattle.rank_machine.specs.Saving as spec;
 ghost use Rattle.rank_machine.specs.Saving.{block_of, saved_by};
 ghost use Rattle.rank_machine.specs.WellFormed.{IsFor};
 ghost use Rattle.rank_machine.specs.State.{answer_of, laid_of};
+ghost use Rattle.rank_machine.specs.Turning.{most_steps, turned_in};
 
 use crate::control::reserve;
 use crate::memory::PlacedMemory;
@@ -111,6 +112,7 @@ impl Machine {
         requires { self.old.left ≡ None }
         ensures functions { self.new.functions ≡ self.old.functions }
         ensures turn { IfOk result (λ want. self.old.end ≡ None → IsTurn self.old.functions limit self.old.placing want self.new.placing) }
+        ensures function { IfOk result (λ want. self.old.end ≡ None → turned_in self.old.functions most_steps limit self.old.placing ≡ act_of want self.new.placing) }
         ensures over { IfOk result (λ want. (e : ends.End) → self.old.end ≡ Some e → (want ≡ Ended e) × (self.new.placing ≡ self.old.placing)) }
         ensures end { IfOk result (λ want. self.new.end ≡ end_in want) }
         ensures left { self.new.left ≡ None }
@@ -164,6 +166,20 @@ impl Machine {
         self.restarting = false;
         self.calls = state.calls;
         Ok(())
+    }
+
+    /// How many ranks there are.
+    pub fn ranks(&self) -> u16
+        ensures { result ≡ self.now.placing.machine.seat.ranks }
+    {
+        self.running.parts.world.requests.seat.ranks
+    }
+
+    /// How many bytes it has printed.
+    pub fn printed(&self) -> u32
+        ensures { result ≡ self.now.placing.machine.printed }
+    {
+        self.running.parts.world.requests.printed as u32
     }
 
     /// What a state holds of the machine.

@@ -1,10 +1,10 @@
 mod Fits
 mod LoweredFits
-mod PassedFits
+pub mod PassedFits
 mod Alike
 mod Rooms
 mod Steps
-mod Takes
+pub mod Takes
 mod Apart
 mod Restarted
-mod Solid
+pub mod Solid
