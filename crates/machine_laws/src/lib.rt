@@ -1,0 +1,4 @@
+//! Laws of the machine of a rank.
+#![tactic(auto)]
+
+pub mod law;
