@@ -1,0 +1,3 @@
+pub mod Again
+pub mod Jobs
+pub mod Script
